@@ -1,0 +1,4 @@
+pub mod Ia
+pub mod Service
+pub mod Host
+pub mod ScionAddress

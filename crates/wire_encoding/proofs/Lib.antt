@@ -1,0 +1,5 @@
+pub mod Parts
+pub mod Numbers
+pub mod Writes
+pub mod Widths
+pub mod Flags

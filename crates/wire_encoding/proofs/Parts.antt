@@ -1,0 +1,59 @@
+-- Parts of a list of bytes, and runs of bytes written over a part (`sets`).
+-- Assumes nothing.
+use mathlib.Core.Path.{_≡_, refl, sym, ap, _∙_, subst}
+use mathlib.Core.List.{List, [], _∷_, _++_, append-nil, append-assoc}
+use Prim.Native.Nat.{ℕ, zero, suc, _+_, _≤_, _<_}
+use native.Mathlib.Nat.{add-zero, add-suc, suc-add}
+use native.Mathlib.Omega.{arith}
+use lib.ListN.{length, take, drop, getD, set, length-take, length-drop, drop-of-length-le, take-append-drop}
+use lib.Seq.{sets, sets-eq, set-comm, drop-cons, drop-drop, take-suc, getD-drop, take-add}
+use mir.Val.{Fits}
+use mir.Syntax.{w8}
+use Rattle.wire_encoding.specs.BigEndian.{part}
+
+-- every element is a byte: what a slice's rule gives
+abbrev pub Bytes : List ℕ → Type 0
+Bytes bytes = (k : ℕ) → Fits w8 (getD bytes k 0)
+
+pub length-part : (at n : ℕ) (bytes : List ℕ) → at + n ≤ length bytes → length (part at n bytes) ≡ n
+length-part at n bytes h = simp (length-take, length-drop) (omega arith)
+
+-- a part begins with its first byte
+pub part-cons : (at n : ℕ) (bytes : List ℕ) → at < length bytes → part at (suc n) bytes ≡ getD bytes at 0 ∷ part (suc at) n bytes
+part-cons at n bytes h = rw (drop-cons bytes at 0)
+
+-- a part ends with its last byte
+pub part-last : (at n : ℕ) (bytes : List ℕ) → at + n < length bytes → part at (suc n) bytes ≡ part at n bytes ++ (getD bytes (at + n) 0 ∷ [])
+part-last at n bytes h =
+    take-suc (drop at bytes) n 0 (simp length-drop (omega arith))
+    ∙ ap (λ (b : ℕ). part at n bytes ++ (b ∷ [])) (getD-drop at bytes n 0)
+
+-- one write after another, where the first ends
+pub sets-append : (xs ys l : List ℕ) (at : ℕ) → sets l at (xs ++ ys) ≡ sets (sets l at xs) (at + length xs) ys
+sets-append [] ys l at = ap (λ (n : ℕ). sets l n ys) (sym (add-zero at))
+sets-append (x ∷ xs) ys l at =
+    sets-append xs ys (set l at x) (suc at)
+    ∙ ap (λ (n : ℕ). sets (sets (set l at x) (suc at) xs) n ys) (suc-add at (length xs) ∙ sym (add-suc at (length xs)))
+
+-- a write of the whole
+pub sets-whole : (xs l : List ℕ) → length xs ≡ length l → sets l 0 xs ≡ xs
+sets-whole xs l e =
+    sets-eq xs l 0 (omega arith)
+    ∙ ap (λ (r : List ℕ). xs ++ r) (drop-of-length-le l {i = 0 + length xs} (omega arith))
+    ∙ append-nil xs
+
+-- a store above a run of stores may be made before it
+pub set-sets : (xs l : List ℕ) (at j b : ℕ) → at + length xs ≤ j → set (sets l at xs) j b ≡ sets (set l j b) at xs
+set-sets [] l at j b h = refl
+set-sets (x ∷ xs) l at j b h =
+    set-sets xs (set l at x) (suc at) j b (omega arith)
+    ∙ ap (λ (r : List ℕ). sets r (suc at) xs) (set-comm l at j x b (λ e. omega arith))
+
+-- a part written where it stands changes nothing
+pub sets-same : (at n : ℕ) (l : List ℕ) → at + n ≤ length l → sets l at (part at n l) ≡ l
+sets-same at n l h =
+    let e : length (part at n l) ≡ n = length-part at n l h in
+    sets-eq (part at n l) l at (omega arith)
+    ∙ ap (λ (m : ℕ). (take at l ++ part at n l) ++ drop (at + m) l) e
+    ∙ ap (λ (r : List ℕ). r ++ drop (at + n) l) (sym (take-add at n l))
+    ∙ take-append-drop (at + n) l

@@ -1,0 +1,85 @@
+-- The loops that write, and the two answers of a writer.
+-- Assumes nothing.
+use mathlib.Core.Path.{_≡_, refl, sym, ap, _∙_}
+use mathlib.Core.List.{List, [], _∷_}
+use Prim.Native.Nat.{ℕ, zero, suc, _+_, _-_, _/_, _%_, _≤_, _<_}
+use native.Mathlib.Nat.{add-suc}
+use native.Mathlib.Numerals.{add-one, sub-one}
+use native.Mathlib.Omega.{arith}
+use lib.ListN.{length, getD, set, drop, length-set, drop-of-length-le}
+use lib.Seq.{sets, drop-cons, length-sets}
+use borrow.Author.Tests.{le-leb, lt-leb}
+use mathlib.Core.Bool.{Bool, true, false}
+use Rattle.wire_encoding.specs.Choice.{pick}
+use Rattle.wire_encoding.specs.BigEndian.{bytesOf, room, placing, placed}
+use Rattle.wire_encoding.proofs.Parts.{sets-append, set-sets}
+use Rattle.wire_encoding.proofs.Numbers.{length-bytesOf}
+
+-- what is left of a number, written to dst as it is now, gives what is wanted
+pub record NumberLeft (goal dst₀ dst : List ℕ) (at left rest : ℕ) : Type 0 where
+  pub writes : sets dst at (bytesOf left rest) ≡ goal
+  pub inside : at + left ≤ length dst
+  pub len : length dst ≡ length dst₀
+
+pub number-step : (goal dst₀ dst : List ℕ) (at left rest : ℕ) → 0 < left → NumberLeft goal dst₀ dst at left rest
+    → NumberLeft goal dst₀ (set dst (at + (left - 1)) (rest % 256)) at (left - 1) (rest / 256)
+unfolding bytesOf
+number-step goal dst₀ dst at (suc n) rest h i =
+    let l : length (bytesOf n (rest / 256)) ≡ n = length-bytesOf n (rest / 256) in
+    simp sub-one (record {
+      writes =
+          sym (set-sets (bytesOf n (rest / 256)) dst at (at + n) (rest % 256) (omega arith))
+          ∙ sym (ap (λ (k : ℕ). sets (sets dst at (bytesOf n (rest / 256))) (at + k) (rest % 256 ∷ [])) l)
+          ∙ sym (sets-append (bytesOf n (rest / 256)) (rest % 256 ∷ []) dst at)
+          ∙ i .writes;
+      inside = simp length-set (omega arith);
+      len = simp length-set (i .len);
+    })
+
+pub number-done : (goal dst₀ dst : List ℕ) (at left rest : ℕ) → left ≤ 0 → NumberLeft goal dst₀ dst at left rest → dst ≡ goal
+unfolding bytesOf
+number-done goal dst₀ dst at zero rest h i = i .writes
+
+-- what is left of a run of bytes, written to dst as it is now, gives what is wanted
+pub record RunLeft (src goal dst₀ dst : List ℕ) (at i : ℕ) : Type 0 where
+  pub writes : sets dst (at + i) (drop i src) ≡ goal
+  pub passed : i ≤ length src
+  pub inside : at + length src ≤ length dst
+  pub len : length dst ≡ length dst₀
+
+pub run-step : (src goal dst₀ dst : List ℕ) (at i : ℕ) → i < length src → RunLeft src goal dst₀ dst at i
+    → RunLeft src goal dst₀ (set dst (at + i) (getD src i 0)) at (i + 1)
+run-step src goal dst₀ dst at i h r = record {
+  writes =
+      simp (add-one, add-suc) (ap (sets dst (at + i)) (sym (drop-cons src i 0 h)) ∙ r .writes);
+  passed = omega arith;
+  inside = simp length-set (r .inside);
+  len = simp length-set (r .len);
+}
+
+pub run-done : (src goal dst₀ dst : List ℕ) (at i : ℕ) → length src ≤ i → RunLeft src goal dst₀ dst at i → dst ≡ goal
+run-done src goal dst₀ dst at i h r = sym (ap (sets dst (at + i)) (drop-of-length-le src {i = i} h)) ∙ r .writes
+
+-- the two answers of a writer of a run of n bytes, each with what the lent bytes then hold
+module _ (dst : List ℕ) (at : ℕ) (run : List ℕ) (n : ℕ) (size : length run ≡ n) where
+  pub done : at + n ≤ length dst → {now : List ℕ} → now ≡ sets dst at run → (0 ≡ placing dst at run) × (now ≡ placed dst at run)
+  unfolding placing placed room
+  done h e = simp (size, le-leb (at + n) (length dst) h) (refl, e)
+
+  pub refused : length dst < at + n → (9 ≡ placing dst at run) × (dst ≡ placed dst at run)
+  unfolding placing placed room
+  refused h = simp (size, lt-leb (at + n) (length dst) h) (refl, refl)
+
+  -- where there is room the bytes are written, and the answer says so
+  pub placed-is : at + n ≤ length dst → placed dst at run ≡ sets dst at run
+  unfolding placed room
+  placed-is h = simp (size, le-leb (at + n) (length dst) h)
+
+-- a write keeps the length
+pub length-placed : (dst : List ℕ) (at : ℕ) (run : List ℕ) → length (placed dst at run) ≡ length dst
+unfolding placed
+length-placed dst at run = go (room dst at (length run))
+  where
+    go : (t : Bool) → length (pick t (sets dst at run) dst) ≡ length dst
+    go true = length-sets dst at run
+    go false = refl

@@ -1,0 +1,5 @@
+pub mod Choice
+pub mod BigEndian
+pub mod Bits
+pub mod Bounded
+pub mod Answers

@@ -1,0 +1,82 @@
+// Big-endian numbers of 2, 4 and 8 bytes, read at an offset of a slice.
+ghost use mathlib.Core.Path.{_≡_};
+ghost use Prim.Native.Nat.{_+_, _≤_, _<_};
+ghost use lib.ListN.{length};
+ghost use Rattle.wire_encoding.specs.BigEndian.{bigEndian, numberAt};
+ghost use Rattle.wire_encoding.specs.Answers.{answer16, answer32, answer64};
+
+// A 16-bit number, or too few bytes for it.
+pub enum Read16 {
+    Value(u16),
+    Truncated,
+}
+
+// A 32-bit number, or too few bytes for it.
+pub enum Read32 {
+    Value(u32),
+    Truncated,
+}
+
+// A 64-bit number, or too few bytes for it.
+pub enum Read64 {
+    Value(u64),
+    Truncated,
+}
+
+// A byte as an index or a count, with its bound for the caller's proof.
+pub fn wide(byte: u8) -> usize
+    ensures { λ r. ⌜ (r ≡ byte) × (r < 256) ⌝ }
+{
+    byte as usize
+}
+
+// The number of `width` bytes at `at`, highest byte first.
+fn read_big_endian(bytes: &[u8], at: usize, width: usize) -> u64
+    requires { ⌜ (width ≤ 8) × (at + width ≤ length (now bytes)) ⌝ }
+    ensures { λ r. ⌜ r ≡ bigEndian width (now (bytes .entry)) at ⌝ }
+{
+    let mut number: u64 = 0;
+    let mut i: usize = 0;
+    while i < width {
+        let byte = bytes[at + i] as u64;
+        number = number * 256 + byte;
+        i += 1;
+    }
+    number
+}
+
+// The 16-bit number at `at`.
+pub fn get_u16(bytes: &[u8], at: usize) -> Read16
+    ensures { λ r. ⌜ answer16 r ≡ numberAt 2 (now (bytes .entry)) at ⌝ }
+{
+    if at <= bytes.len() {
+        if 2 <= bytes.len() - at {
+            return Read16::Value(read_big_endian(bytes, at, 2) as u16);
+        }
+    }
+    Read16::Truncated
+}
+
+// The 32-bit number at `at`.
+pub fn get_u32(bytes: &[u8], at: usize) -> Read32
+    ensures { λ r. ⌜ answer32 r ≡ numberAt 4 (now (bytes .entry)) at ⌝ }
+{
+    if at <= bytes.len() {
+        if 4 <= bytes.len() - at {
+            return Read32::Value(read_big_endian(bytes, at, 4) as u32);
+        }
+    }
+    Read32::Truncated
+}
+
+// The 64-bit number at `at`.
+pub fn get_u64(bytes: &[u8], at: usize) -> Read64
+    ensures { λ r. ⌜ answer64 r ≡ numberAt 8 (now (bytes .entry)) at ⌝ }
+{
+    if at <= bytes.len() {
+        if 8 <= bytes.len() - at {
+            return Read64::Value(read_big_endian(bytes, at, 8));
+        }
+    }
+    Read64::Truncated
+}
