@@ -57,3 +57,13 @@ sets-same at n l h =
     ∙ ap (λ (m : ℕ). (take at l ++ part at n l) ++ drop (at + m) l) e
     ∙ ap (λ (r : List ℕ). r ++ drop (at + n) l) (sym (take-add at n l))
     ∙ take-append-drop (at + n) l
+
+-- a part, byte by byte
+abbrev pub bytesFrom : ℕ → ℕ → List ℕ → List ℕ
+bytesFrom at zero bytes = []
+bytesFrom at (suc n) bytes = getD bytes at 0 ∷ bytesFrom (suc at) n bytes
+
+pub part-bytes : (n at : ℕ) (bytes : List ℕ) → at + n ≤ length bytes → part at n bytes ≡ bytesFrom at n bytes
+part-bytes zero at bytes h = refl
+part-bytes (suc n) at bytes h =
+    part-cons at n bytes (omega arith) ∙ ap (λ (r : List ℕ). getD bytes at 0 ∷ r) (part-bytes n (suc at) bytes (omega arith))

@@ -1,0 +1,65 @@
+-- `HopField::new` meets its contract: each field is read at its offset of the part.
+use native.Mathlib.Omega.{arith}
+use borrow.Author.Needs.{needs}
+use borrow.Author.Tests.{eq-eqb, ne-eqb}
+use Rattle.wire_encoding.proofs.Parts.{part-bytes}
+use Rattle.path_header.specs.Fields.{newHopField, hopFieldAt, zeroHopField}
+use Rattle.path_header.proofs.fields.HopField.new.Statement.{statement}
+use Rattle.path_header.proofs.fields.HopField.new.Tie as tie
+
+shared-slice-read-t6 : tie.Need-shared-slice-read-t6
+shared-slice-read-t6 c = search needs
+
+shared-slice-read-t8 : tie.Need-shared-slice-read-t8
+shared-slice-read-t8 c = search needs
+
+shared-slice-read-t10 : tie.Need-shared-slice-read-t10
+shared-slice-read-t10 c = search needs
+
+shared-slice-read-t12 : tie.Need-shared-slice-read-t12
+shared-slice-read-t12 c = search needs
+
+shared-slice-read-t14 : tie.Need-shared-slice-read-t14
+shared-slice-read-t14 c = search needs
+
+shared-slice-read-t16 : tie.Need-shared-slice-read-t16
+shared-slice-read-t16 c = search needs
+
+shared-slice-read-t6-2 : tie.Need-shared-slice-read-t6-2
+shared-slice-read-t6-2 c = search needs
+
+shared-slice-read-t16-2 : tie.Need-shared-slice-read-t16-2
+shared-slice-read-t16-2 c = search needs
+
+u16-at-requires : tie.Need-u16-at-requires
+u16-at-requires c κs = search needs
+
+u16-at-requires-2 : tie.Need-u16-at-requires-2
+u16-at-requires-2 c κs = search needs
+
+returns : tie.Need-returns
+unfolding newHopField hopFieldAt
+returns c =
+    let s = c .before .before .before .before .before .before .before .before .before .before in
+    rw (eq-eqb _ _ (s .if1 .taken), part-bytes 6 6 (s .before .before .args .part .now) (omega arith), c .before .u16-at .ensures, c .u16-at2 .ensures)
+
+returns-2 : tie.Need-returns-2
+unfolding newHopField zeroHopField
+returns-2 c = rw (ne-eqb _ _ (c .if1 .left))
+
+pub new-spec : {M : Type 1} → statement M
+new-spec =
+    tie.close
+    (tie.spec
+    shared-slice-read-t6
+    shared-slice-read-t8
+    shared-slice-read-t10
+    shared-slice-read-t12
+    shared-slice-read-t14
+    shared-slice-read-t16
+    shared-slice-read-t6-2
+    shared-slice-read-t16-2
+    u16-at-requires
+    u16-at-requires-2
+    returns
+    returns-2)
