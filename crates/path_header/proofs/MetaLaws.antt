@@ -10,9 +10,8 @@ use lib.ListN.{length, getD}
 use borrow.Author.Tests.{eq-eqb, ne-eqb, eqb-false, ltb-true}
 use Rattle.wire_encoding.specs.Choice.{pick, value, refused}
 use Rattle.wire_encoding.specs.BigEndian.{bytesOf, placed}
-use Rattle.wire_encoding.proofs.Parts.{sets-whole}
 use Rattle.wire_encoding.proofs.Numbers.{length-bytesOf}
-use Rattle.wire_encoding.proofs.Writes.{placed-is}
+use Rattle.wire_encoding.proofs.Writes.{placed-whole}
 use Rattle.path_header.specs.declared.meta_header.PathMetaHeader.{PathMetaHeader}
 use Rattle.path_header.specs.MetaHeader.{
   nthField,
@@ -33,13 +32,13 @@ pub info-le-hop : (m : PathMetaHeader) → infoFieldsCount m ≤ hopFieldsCount 
 unfolding infoFieldsCount hopFieldsCount
 info-le-hop m = go (eqb (segmentLength m 0) 0) (eqb (segmentLength m 1) 0) (eqb (segmentLength m 2) 0) refl refl refl
   where
-  go : (x y z : Bool) → eqb (segmentLength m 0) 0 ≡ x → eqb (segmentLength m 1) 0 ≡ y → eqb (segmentLength m 2) 0 ≡ z
-      → pick x 0 (pick y 1 (pick z 2 3)) ≤ segmentLength m 0 + segmentLength m 1 + segmentLength m 2
-  go true y z ex ey ez = omega arith
-  go false true z ex ey ez = omega (arith, eqb-false (segmentLength m 0) 0 ex)
-  go false false true ex ey ez = omega (arith, eqb-false (segmentLength m 0) 0 ex, eqb-false (segmentLength m 1) 0 ey)
-  go false false false ex ey ez =
-      omega (arith, eqb-false (segmentLength m 0) 0 ex, eqb-false (segmentLength m 1) 0 ey, eqb-false (segmentLength m 2) 0 ez)
+    go : (x y z : Bool) → eqb (segmentLength m 0) 0 ≡ x → eqb (segmentLength m 1) 0 ≡ y → eqb (segmentLength m 2) 0 ≡ z
+        → pick x 0 (pick y 1 (pick z 2 3)) ≤ segmentLength m 0 + segmentLength m 1 + segmentLength m 2
+    go true y z ex ey ez = omega arith
+    go false true z ex ey ez = omega (arith, eqb-false (segmentLength m 0) 0 ex)
+    go false false true ex ey ez = omega (arith, eqb-false (segmentLength m 0) 0 ex, eqb-false (segmentLength m 1) 0 ey)
+    go false false false ex ey ez =
+        omega (arith, eqb-false (segmentLength m 0) 0 ex, eqb-false (segmentLength m 1) 0 ey, eqb-false (segmentLength m 2) 0 ez)
 
 -- a chain of tests that came out true: each did
 both : (b x : Bool) → pick b x false ≡ true → (b ≡ true) × (x ≡ true)
@@ -118,27 +117,24 @@ pub word-is : (m : PathMetaHeader) {n : ℕ} → value n ≡ asWord m → (field
 unfolding asWord
 word-is m {n} e = go (fieldsFit m) e
   where
-  go : (t : Bool) → value n ≡ pick t (value (wordOf m)) (refused 10) → (t ≡ true) × (n ≡ wordOf m)
-  go true e = (refl, cc)
-  go false e = let z : _≡_ {A = ℕ} 0 1 = cc in absurd (omega arith)
+    go : (t : Bool) → value n ≡ pick t (value (wordOf m)) (refused 10) → (t ≡ true) × (n ≡ wordOf m)
+    go true e = (refl, cc)
+    go false e = let z : _≡_ {A = ℕ} 0 1 = cc in absurd (omega arith)
 
 pub word-wide : (m : PathMetaHeader) → refused 10 ≡ asWord m → fieldsFit m ≡ false
 unfolding asWord
 word-wide m e = go (fieldsFit m) e
   where
-  go : (t : Bool) → refused 10 ≡ pick t (value (wordOf m)) (refused 10) → t ≡ false
-  go true e = let z : _≡_ {A = ℕ} 0 1 = cc in absurd (omega arith)
-  go false e = refl
+    go : (t : Bool) → refused 10 ≡ pick t (value (wordOf m)) (refused 10) → t ≡ false
+    go true e = let z : _≡_ {A = ℕ} 0 1 = cc in absurd (omega arith)
+    go false e = refl
 
 -- the three answers of the encoder, each with what the destination then holds
 pub encoded-done : (m : PathMetaHeader) (dst : List ℕ) {now : List ℕ} → fieldsFit m ≡ true → length dst ≡ 4
     → now ≡ placed dst 0 (bytesOf 4 (wordOf m)) → (0 ≡ encoding m dst) × (now ≡ encoded m dst)
 unfolding encoding encoded
 encoded-done m dst f l e =
-    let run = bytesOf 4 (wordOf m) in
-    let k : length run ≡ 4 = length-bytesOf 4 (wordOf m) in
-    rw (f, eq-eqb (length dst) 4 l)
-    (refl, e ∙ placed-is dst 0 run 4 k (omega arith) ∙ sets-whole run dst (k ∙ sym l))
+    rw (f, eq-eqb (length dst) 4 l) (refl, e ∙ placed-whole (bytesOf 4 (wordOf m)) dst (length-bytesOf 4 (wordOf m) ∙ sym l))
 
 pub encoded-wide : (m : PathMetaHeader) (dst : List ℕ) → fieldsFit m ≡ false → (10 ≡ encoding m dst) × (dst ≡ encoded m dst)
 unfolding encoding encoded

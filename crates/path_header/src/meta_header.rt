@@ -166,21 +166,27 @@ impl PathMetaHeader {
             + self.hop_fields_count() * PathMetaHeader::HOP_FIELD_LENGTH
     }
 
+    // The segment in which hop field `index` lies.
+    pub fn segment_of(self, index: usize) -> usize
+        ensures { λ r. ⌜ (r ≡ spec.segmentOf self index) × (r ≤ 2) ⌝ }
+    {
+        let lengths = self.segment_lengths;
+        let first = wide(lengths[0]);
+        let second = wide(lengths[1]);
+        if index < first {
+            return 0;
+        }
+        if index < first + second {
+            return 1;
+        }
+        2
+    }
+
     // The segment in which the hop pointer lies.
     pub fn computed_info_field_index(self) -> usize
         ensures { λ r. ⌜ (r ≡ spec.segmentOf self (self .«current_hop_field»)) × (r ≤ 2) ⌝ }
     {
-        let lengths = self.segment_lengths;
-        let hop = wide(self.current_hop_field);
-        let first = wide(lengths[0]);
-        let second = wide(lengths[1]);
-        if hop < first {
-            return 0;
-        }
-        if hop < first + second {
-            return 1;
-        }
-        2
+        self.segment_of(wide(self.current_hop_field))
     }
 
     // The index of the first hop field of segment `k`; a number above 2 counts as 2.

@@ -3,10 +3,10 @@
 use mathlib.Core.Path.{_≡_, refl, sym, ap, _∙_, subst}
 use mathlib.Core.List.{List, [], _∷_, _++_, append-nil, append-assoc}
 use Prim.Native.Nat.{ℕ, zero, suc, _+_, _≤_, _<_}
-use native.Mathlib.Nat.{add-zero, add-suc, suc-add}
+use native.Mathlib.Nat.{add-assoc, add-zero, add-suc, suc-add}
 use native.Mathlib.Omega.{arith}
 use lib.ListN.{length, take, drop, getD, set, length-take, length-drop, drop-of-length-le, take-append-drop}
-use lib.Seq.{sets, sets-eq, set-comm, drop-cons, drop-drop, take-suc, getD-drop, take-add}
+use lib.Seq.{sets, sets-eq, set-comm, drop-cons, drop-drop, take-suc, getD-drop, getD-take, take-add, ext-getD}
 use mir.Val.{Fits}
 use mir.Syntax.{w8}
 use Rattle.wire_encoding.specs.BigEndian.{part}
@@ -67,3 +67,18 @@ pub part-bytes : (n at : ℕ) (bytes : List ℕ) → at + n ≤ length bytes →
 part-bytes zero at bytes h = refl
 part-bytes (suc n) at bytes h =
     part-cons at n bytes (omega arith) ∙ ap (λ (r : List ℕ). getD bytes at 0 ∷ r) (part-bytes n (suc at) bytes (omega arith))
+
+-- byte i of a part
+pub getD-part : (at n : ℕ) (bytes : List ℕ) (i : ℕ) → i < n → getD (part at n bytes) i 0 ≡ getD bytes (at + i) 0
+getD-part at n bytes i h = getD-take n (drop at bytes) i 0 h ∙ getD-drop at bytes i 0
+
+-- a part of a part
+pub part-part : (p n at m : ℕ) (bytes : List ℕ) → at + m ≤ n → p + n ≤ length bytes → part at m (part p n bytes) ≡ part (p + at) m bytes
+part-part p n at m bytes h k =
+    let inner : length (part at m (part p n bytes)) ≡ m = length-part at m (part p n bytes) (omega (arith, length-part p n bytes k)) in
+    let outer : length (part (p + at) m bytes) ≡ m = length-part (p + at) m bytes (omega arith) in
+    ext-getD 0 (part at m (part p n bytes)) (part (p + at) m bytes) (inner ∙ sym outer)
+    (λ i below. getD-part at m (part p n bytes) i (omega arith)
+    ∙ getD-part p n bytes (at + i) (omega arith)
+    ∙ ap (λ (x : ℕ). getD bytes x 0) (sym (add-assoc p at i))
+    ∙ sym (getD-part (p + at) m bytes i (omega arith)))

@@ -22,14 +22,14 @@ pub was-value : (bits n : ℕ) {v : ℕ} → value v ≡ bounded bits n → true
 unfolding bounded
 was-value bits n {v} e = go (ltb n (2 ^ bits)) e
   where
-  go : (t : Bool) → value v ≡ pick t (value n) (refused 10) → true ≡ t
-  go true e = refl
-  go false e = let z : _≡_ {A = ℕ} 0 1 = cc in absurd (omega arith)
+    go : (t : Bool) → value v ≡ pick t (value n) (refused 10) → true ≡ t
+    go true e = refl
+    go false e = let z : _≡_ {A = ℕ} 0 1 = cc in absurd (omega arith)
 
 pub was-wide : (bits n : ℕ) → refused 10 ≡ bounded bits n → false ≡ ltb n (2 ^ bits)
 unfolding bounded
 was-wide bits n e = go (ltb n (2 ^ bits)) e
   where
-  go : (t : Bool) → refused 10 ≡ pick t (value n) (refused 10) → false ≡ t
-  go true e = let z : _≡_ {A = ℕ} 0 1 = cc in absurd (omega arith)
-  go false e = refl
+    go : (t : Bool) → refused 10 ≡ pick t (value n) (refused 10) → false ≡ t
+    go true e = let z : _≡_ {A = ℕ} 0 1 = cc in absurd (omega arith)
+    go false e = refl

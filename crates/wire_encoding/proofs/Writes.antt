@@ -12,7 +12,7 @@ use borrow.Author.Tests.{le-leb, lt-leb}
 use mathlib.Core.Bool.{Bool, true, false}
 use Rattle.wire_encoding.specs.Choice.{pick}
 use Rattle.wire_encoding.specs.BigEndian.{bytesOf, room, placing, placed}
-use Rattle.wire_encoding.proofs.Parts.{sets-append, set-sets}
+use Rattle.wire_encoding.proofs.Parts.{sets-append, set-sets, sets-whole}
 use Rattle.wire_encoding.proofs.Numbers.{length-bytesOf}
 
 -- what is left of a number, written to dst as it is now, gives what is wanted
@@ -83,3 +83,7 @@ length-placed dst at run = go (room dst at (length run))
     go : (t : Bool) → length (pick t (sets dst at run) dst) ≡ length dst
     go true = length-sets dst at run
     go false = refl
+
+-- a run written over a destination of exactly its size is all that the destination then holds
+pub placed-whole : (run dst : List ℕ) → length run ≡ length dst → placed dst 0 run ≡ run
+placed-whole run dst e = placed-is dst 0 run (length dst) e (omega arith) ∙ sets-whole run dst e

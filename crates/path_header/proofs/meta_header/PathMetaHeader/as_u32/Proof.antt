@@ -72,15 +72,16 @@ cast-t27 c = let f : Fitting (c .before .before .before .before .before .before 
 
 returns : tie.Need-returns
 unfolding spec.asWord spec.wordOf
-returns c = 
-    rw
-    (c .before .before .before .before .before .wide .ensures .0,
-    c .before .before .before .before .wide2 .ensures .0,
-    c .before .before .before .wide3 .ensures .0,
-    c .before .before .wide4 .ensures .0,
-    c .before .wide5 .ensures .0,
-    c .wide6 .ensures .0,
-    sym (c .before .before .before .before .before .before .before .fields-fit .ensures) ∙ c .before .before .before .before .before .before .if1 .taken)
+returns c =
+    rw (
+      c .before .before .before .before .before .wide .ensures .0,
+      c .before .before .before .before .wide2 .ensures .0,
+      c .before .before .before .wide3 .ensures .0,
+      c .before .before .wide4 .ensures .0,
+      c .before .wide5 .ensures .0,
+      c .wide6 .ensures .0,
+      sym (c .before .before .before .before .before .before .before .fields-fit .ensures) ∙ c .before .before .before .before .before .before .if1 .taken,
+    )
 
 returns-2 : tie.Need-returns-2
 unfolding spec.asWord

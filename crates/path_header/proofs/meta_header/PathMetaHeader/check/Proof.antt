@@ -24,7 +24,7 @@ info-fields-count-requires c κs = search needs
 
 returns-2 : tie.Need-returns-2
 unfolding spec.checked
-returns-2 c = 
+returns-2 c =
     let m = c .before .before .before .before .before .args .self in
     let info : spec.infoFieldsCount m ≤ m .«current_info_field» = omega arith in
     rw (sym (c .before .before .before .before .lengths-valid .ensures) ∙ not-false _ (c .before .before .before .if1 .left), le-ltb _ _ info)
@@ -34,14 +34,14 @@ hop-valid-requires c κs = search needs
 
 returns-3 : tie.Need-returns-3
 unfolding spec.checked
-returns-3 c = 
+returns-3 c =
     let m = c .before .before .before .before .before .before .before .args .self in
     let info : m .«current_info_field» < spec.infoFieldsCount m = omega arith in
     rw (sym (c .before .before .before .before .before .before .lengths-valid .ensures) ∙ not-false _ (c .before .before .before .before .before .if1 .left), lt-ltb _ _ info, sym (c .before .hop-valid .ensures) ∙ not-true _ (c .if3 .taken))
 
 returns-4 : tie.Need-returns-4
 unfolding spec.checked
-returns-4 c = 
+returns-4 c =
     let m = c .before .before .before .before .before .before .before .args .self in
     let info : m .«current_info_field» < spec.infoFieldsCount m = omega arith in
     rw (sym (c .before .before .before .before .before .before .lengths-valid .ensures) ∙ not-false _ (c .before .before .before .before .before .if1 .left), lt-ltb _ _ info, sym (c .before .hop-valid .ensures) ∙ not-false _ (c .if3 .left))

@@ -1,8 +1,6 @@
--- `computed_info_field_index` meets its contract: the hop pointer against the ends of the first two segments.
+-- `computed_info_field_index` meets its contract: the segment of the hop pointer.
+use mathlib.Core.Path.{ap, _∙_}
 use native.Mathlib.Omega.{arith}
-use borrow.Author.Tests.{lt-ltb, le-ltb}
-use mathlib.Core.Path.{_≡_}
-use Prim.Native.Nat.{_+_, _<_, _≤_}
 use Rattle.path_header.specs.MetaHeader as spec
 use borrow.Author.Needs.{needs}
 use Rattle.path_header.proofs.meta_header.PathMetaHeader.computed_info_field_index.Statement.{
@@ -13,54 +11,14 @@ use Rattle.path_header.proofs.meta_header.PathMetaHeader.computed_info_
 wide-requires : tie.Need-wide-requires
 wide-requires c κs = search needs
 
-array-read-wide : tie.Need-array-read-wide
-array-read-wide c = search needs
-
-wide-requires-2 : tie.Need-wide-requires-2
-wide-requires-2 c κs = search needs
-
-array-read-wide-2 : tie.Need-array-read-wide-2
-array-read-wide-2 c = search needs
-
-wide-requires-3 : tie.Need-wide-requires-3
-wide-requires-3 c κs = search needs
+segment-of-requires : tie.Need-segment-of-requires
+segment-of-requires c κs = search needs
 
 returns : tie.Need-returns
-unfolding spec.segmentOf
-returns c = 
-    let m = c .before .before .before .before .before .args .self in
-    let h : m .«current_hop_field» < spec.segmentLength m 0 = omega arith in
-    (simp (lt-ltb _ _ h), omega arith)
-
-add-if2 : tie.Need-add-if2
-add-if2 c = search needs
-
-returns-2 : tie.Need-returns-2
-unfolding spec.segmentOf
-returns-2 c = 
-    let m = c .before .before .before .before .before .before .args .self in
-    let g : spec.segmentLength m 0 ≤ m .«current_hop_field» = omega arith in
-    let h : m .«current_hop_field» < spec.segmentLength m 0 + spec.segmentLength m 1 = omega arith in
-    (simp (le-ltb _ _ g, lt-ltb _ _ h), omega arith)
-
-returns-3 : tie.Need-returns-3
-unfolding spec.segmentOf
-returns-3 c = 
-    let m = c .before .before .before .before .before .before .args .self in
-    let g : spec.segmentLength m 0 ≤ m .«current_hop_field» = omega arith in
-    let h : spec.segmentLength m 0 + spec.segmentLength m 1 ≤ m .«current_hop_field» = omega arith in
-    (simp (le-ltb _ _ g, le-ltb _ _ h), omega arith)
+returns c = (
+  c .segment-of .ensures .0 ∙ ap (spec.segmentOf (c .before .before .args .self)) (c .before .wide .ensures .0),
+  c .segment-of .ensures .1,
+)
 
 pub computed-info-field-index-spec : {M : Type 1} → statement M
-computed-info-field-index-spec =
-    tie.close
-    (tie.spec
-    wide-requires
-    array-read-wide
-    wide-requires-2
-    array-read-wide-2
-    wide-requires-3
-    returns
-    add-if2
-    returns-2
-    returns-3)
+computed-info-field-index-spec = tie.close (tie.spec wide-requires segment-of-requires returns)

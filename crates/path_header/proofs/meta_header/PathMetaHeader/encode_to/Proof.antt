@@ -21,7 +21,7 @@ same-length : tie.Need-same-length
 same-length c = search needs
 
 returns : tie.Need-returns
-returns c = 
+returns c =
     let m = c .before .before .before .before .before .before .before .before .before .before .args .self in
     let known = word-is m (rw (c .before .before .before .before .before .before .number .given .1) at (c .before .before .before .before .before .before .before .before .as-u32 .ensures)) in
     encoded-done m _ (known .0) (c .before .before .before .before .if1 .taken)

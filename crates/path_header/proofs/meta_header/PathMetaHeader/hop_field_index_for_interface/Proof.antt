@@ -16,7 +16,7 @@ interfaces-count-requires c κs = search needs
 
 returns : tie.Need-returns
 unfolding spec.hopFieldOf
-returns c = 
+returns c =
     let outside : spec.interfacesCount (c .before .before .args .self) ≤ c .before .before .args .index = omega arith in
     rw (le-leb _ _ outside)
 
@@ -40,7 +40,7 @@ add-if2 c = search needs
 
 returns-2 : tie.Need-returns-2
 unfolding spec.hopFieldOf spec.segmentOfLink
-returns-2 c = 
+returns-2 c =
     let m = c .before .before .before .before .before .before .args .self in
     let i = c .before .before .before .before .before .before .args .index in
     let inside : i < spec.interfacesCount m = omega arith in
@@ -59,7 +59,7 @@ add-t16 c = search needs
 
 returns-3 : tie.Need-returns-3
 unfolding spec.hopFieldOf spec.segmentOfLink
-returns-3 c = 
+returns-3 c =
     let m = c .before .before .before .before .before .before .before .args .self in
     let i = c .before .before .before .before .before .before .before .args .index in
     let inside : i < spec.interfacesCount m = omega arith in
@@ -73,7 +73,7 @@ add-t8 c = search needs
 
 returns-4 : tie.Need-returns-4
 unfolding spec.hopFieldOf spec.segmentOfLink
-returns-4 c = 
+returns-4 c =
     let m = c .before .before .before .before .before .before .before .args .self in
     let i = c .before .before .before .before .before .before .before .args .index in
     let inside : i < spec.interfacesCount m = omega arith in

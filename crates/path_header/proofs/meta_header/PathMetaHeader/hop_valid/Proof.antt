@@ -16,7 +16,7 @@ hop-fields-count-requires c κs = search needs
 
 returns : tie.Need-returns
 unfolding spec.hopValid
-returns c = 
+returns c =
     let m = c .before .before .before .args .self in
     let h : spec.hopFieldsCount m ≤ m .«current_hop_field» = omega arith in
     rw (le-ltb _ _ h)
@@ -29,7 +29,7 @@ wide-requires-2 c κs = search needs
 
 returns-2 : tie.Need-returns-2
 unfolding spec.hopValid
-returns-2 c = 
+returns-2 c =
     let m = c .before .before .before .before .before .args .self in
     let h : m .«current_hop_field» < spec.hopFieldsCount m = omega arith in
     rw (lt-ltb _ _ h, c .before .computed-info-field-index .ensures .0, c .wide2 .ensures .0)

@@ -1,0 +1,25 @@
+-- `raw` meets its contract: a path is never longer than its bytes.
+use mathlib.Core.Path.{_≡_, ap, sym, _∙_}
+use Prim.Native.Nat.{_≤_}
+use native.Mathlib.Omega.{arith}
+use lib.ListN.{length, take}
+use lib.Seq.{length-take-le}
+use Rattle.path.specs.Dataplane as spec
+use Rattle.path.proofs.Reading.{length-inside}
+use borrow.Author.Needs.{needs}
+use Rattle.path.proofs.dataplane.DataplanePath.raw.Statement.{statement}
+use Rattle.path.proofs.dataplane.DataplanePath.raw.Tie as tie
+
+decode-requires : tie.Need-decode-requires
+decode-requires c κs = search needs
+
+slice-aggregate-result : tie.Need-slice-aggregate-result
+slice-aggregate-result c =
+    let a = c .before .before .before .args in
+    sym (length-take-le _ _ (rw (← c .before .decode .ensures) at (length-inside (a .bytes .now) (a .self .«path_type»))))
+
+returns : tie.Need-returns
+returns c = ap (λ r. take (r .length) (c .before .before .before .args .bytes .now)) (c .before .decode .ensures)
+
+pub raw-spec : {M : Type 1} → statement M
+raw-spec = tie.close (tie.spec decode-requires slice-aggregate-result returns)

@@ -1,0 +1,46 @@
+-- `DataplanePath::standard` meets its contract: reading, then the type.
+use borrow.Author.Tests.{eq-eqb, ne-eqb}
+use Rattle.path.specs.Dataplane as spec
+use borrow.Author.Needs.{needs}
+use Rattle.path.proofs.dataplane.DataplanePath.standard.Statement.{statement}
+use Rattle.path.proofs.dataplane.DataplanePath.standard.Tie as tie
+
+decode-requires : tie.Need-decode-requires
+decode-requires c κs = search needs
+
+enum-told : tie.Need-enum-told
+enum-told c = search needs
+
+returns : tie.Need-returns
+unfolding spec.standardOf spec.standardAnswer
+returns c = rw (← c .before .before .before .before .before .decode .ensures, c .before .before .enum-told .given .1, eq-eqb _ _ (c .if1 .taken))
+
+refused-requires : tie.Need-refused-requires
+refused-requires c κs = search needs
+
+enum-known-answer : tie.Need-enum-known-answer
+enum-known-answer c = search needs
+
+refused-requires-2 : tie.Need-refused-requires-2
+refused-requires-2 c κs = search needs
+
+returns-2 : tie.Need-returns-2
+unfolding spec.standardOf spec.standardAnswer
+returns-2 c = rw (← c .before .before .before .before .before .before .decode .ensures, c .before .before .before .enum-told .given .1, ne-eqb _ _ (c .before .if1 .left)) (c .refused .ensures)
+
+returns-3 : tie.Need-returns-3
+unfolding spec.standardOf spec.standardAnswer
+returns-3 c = rw (← c .before .before .before .before .before .decode .ensures, c .before .before .answer .given .1) (c .refused2 .ensures)
+
+pub standard-spec : {M : Type 1} → statement M
+standard-spec =
+    tie.close
+    (tie.spec
+    decode-requires
+    enum-told
+    returns
+    refused-requires
+    enum-known-answer
+    refused-requires-2
+    returns-2
+    returns-3)

@@ -1,0 +1,15 @@
+-- `InterfaceCount::refused` meets its contract: the error beside zeros.
+use Rattle.path.specs.Dataplane as spec
+use borrow.Author.Needs.{needs}
+use Rattle.path.proofs.dataplane.InterfaceCount.refused.Statement.{statement}
+use Rattle.path.proofs.dataplane.InterfaceCount.refused.Tie as tie
+
+zero-requires : tie.Need-zero-requires
+zero-requires c κs = search needs
+
+returns : tie.Need-returns
+unfolding spec.noCount
+returns c = rw (c .zero .ensures)
+
+pub refused-spec : {M : Type 1} → statement M
+refused-spec = tie.close (tie.spec zero-requires returns)

@@ -1,0 +1,25 @@
+-- `Located::at` meets its contract: by the two cases of the offset.
+use Rattle.path.specs.Dataplane as spec
+use borrow.Author.Needs.{needs}
+use Rattle.path.proofs.dataplane.Located.at.Statement.{statement}
+use Rattle.path.proofs.dataplane.Located.at.Tie as tie
+
+enum-known-offset : tie.Need-enum-known-offset
+enum-known-offset c = search needs
+
+enum-told : tie.Need-enum-told
+enum-told c = search needs
+
+refused-requires : tie.Need-refused-requires
+refused-requires c κs = search needs
+
+returns : tie.Need-returns
+unfolding spec.locatedAt
+returns c = rw (c .before .offset .given .1)
+
+returns-2 : tie.Need-returns-2
+unfolding spec.locatedAt
+returns-2 c = rw (c .before .enum-told .given .1) (c .refused .ensures)
+
+pub at-spec : {M : Type 1} → statement M
+at-spec = tie.close (tie.spec enum-known-offset enum-told refused-requires returns returns-2)

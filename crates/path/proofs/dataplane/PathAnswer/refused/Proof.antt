@@ -1,0 +1,15 @@
+-- `PathAnswer::refused` meets its contract: the error beside zeros.
+use Rattle.path.specs.Dataplane as spec
+use borrow.Author.Needs.{needs}
+use Rattle.path.proofs.dataplane.PathAnswer.refused.Statement.{statement}
+use Rattle.path.proofs.dataplane.PathAnswer.refused.Tie as tie
+
+zero-requires : tie.Need-zero-requires
+zero-requires c κs = search needs
+
+returns : tie.Need-returns
+unfolding spec.answerRefused
+returns c = rw (c .zero .ensures)
+
+pub refused-spec : {M : Type 1} → statement M
+refused-spec = tie.close (tie.spec zero-requires returns)

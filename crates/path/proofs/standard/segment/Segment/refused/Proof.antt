@@ -1,0 +1,15 @@
+-- `Segment::refused` meets its contract: the refusal beside a zero path and two empty parts.
+use borrow.Author.Needs.{needs}
+use Rattle.path.specs.Segment as spec
+use Rattle.path.proofs.standard.segment.Segment.refused.Statement.{statement}
+use Rattle.path.proofs.standard.segment.Segment.refused.Tie as tie
+
+zero-requires : tie.Need-zero-requires
+zero-requires c κs = search needs
+
+returns : tie.Need-returns
+unfolding spec.noSegment
+returns c = cc
+
+pub refused-spec : {M : Type 1} → statement M
+refused-spec = tie.close (tie.spec zero-requires returns)

@@ -1,0 +1,3 @@
+pub mod Standard
+pub mod Segment
+pub mod Dataplane

@@ -1,0 +1,3 @@
+// SCION paths as bytes: reading, views, expiry, interfaces, alert flags, copying.
+pub mod dataplane;
+pub mod standard;

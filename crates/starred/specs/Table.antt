@@ -1,0 +1,56 @@
+-- Document 01, "Inputs tried beside each border": the rows marked *, each by the definition that the call's contract cites.
+use Prim.Native.Nat.{ℕ}
+use mathlib.Core.List.{List, [], _∷_, _++_}
+use lib.ListN.{replicate}
+use Rattle.path_header.specs.Errors.{decodedNumber, answerNumber}
+use Rattle.path.specs.Dataplane.{readDataplane, expiryIn, interfaceIn}
+
+-- reading a standard path of these meta bytes, enough following: the answer's number, and the path's length in bytes
+unfoldable pub reading : List ℕ → List ℕ
+reading meta =
+    let read = readDataplane 1 (meta ++ replicate 60 0) in
+    decodedNumber (read .answer) ∷ read .length ∷ []
+
+-- the expiry of a path of one hop field with these four timestamp bytes and this expiry byte
+unfoldable pub expiring : List ℕ → ℕ → List ℕ
+expiring time e =
+    let expiry = expiryIn 1 ((0x00 ∷ 0x00 ∷ 0x10 ∷ 0x00 ∷ 0x01 ∷ 0x00 ∷ 0x00 ∷ 0x00 ∷ []) ++ time ++ (0x00 ∷ e ∷ []) ++ replicate 10 0) in
+    answerNumber (expiry .answer) ∷ expiry .ms ∷ []
+
+-- interface i of a path of lengths 2, 2, 0: the answer's number, and the hop field that the interface belongs to
+unfoldable pub interfaceOfTwoByTwo : ℕ → List ℕ
+interfaceOfTwoByTwo i =
+    let found = interfaceIn 1 ((0x00 ∷ 0x00 ∷ 0x20 ∷ 0x80 ∷ []) ++ replicate 64 0) i in
+    answerNumber (found .answer) ∷ found .«hop_field» ∷ []
+
+-- what is answered
+unfoldable pub answers : List (List ℕ)
+answers =
+    reading (0x00 ∷ 0x00 ∷ 0x20 ∷ 0x00 ∷ [])
+    ∷ reading (0x02 ∷ 0x00 ∷ 0x20 ∷ 0x00 ∷ [])
+    ∷ reading (0x40 ∷ 0x00 ∷ 0x20 ∷ 0x00 ∷ [])
+    ∷ reading (0x42 ∷ 0x00 ∷ 0x20 ∷ 0x00 ∷ [])
+    ∷ reading (0x00 ∷ 0x00 ∷ 0x20 ∷ 0x01 ∷ [])
+    ∷ reading (0xC0 ∷ 0x00 ∷ 0x10 ∷ 0x41 ∷ [])
+    ∷ reading (0x02 ∷ 0x00 ∷ 0x20 ∷ 0x40 ∷ [])
+    ∷ reading (0x42 ∷ 0x00 ∷ 0x20 ∷ 0x40 ∷ [])
+    ∷ expiring (0x00 ∷ 0x00 ∷ 0x00 ∷ 0x01 ∷ []) 0x00
+    ∷ expiring (0xFF ∷ 0xFF ∷ 0xFF ∷ 0xFF ∷ []) 0xFF
+    ∷ interfaceOfTwoByTwo 2
+    ∷ []
+
+-- what document 01 says
+unfoldable pub wanted : List (List ℕ)
+wanted =
+    (0 ∷ 36 ∷ [])
+    ∷ (6 ∷ 0 ∷ [])
+    ∷ (5 ∷ 0 ∷ [])
+    ∷ (5 ∷ 0 ∷ [])
+    ∷ (4 ∷ 0 ∷ [])
+    ∷ (5 ∷ 0 ∷ [])
+    ∷ (6 ∷ 0 ∷ [])
+    ∷ (0 ∷ 56 ∷ [])
+    ∷ (0 ∷ 338500 ∷ [])
+    ∷ (0 ∷ 4295053695000 ∷ [])
+    ∷ (0 ∷ 2 ∷ [])
+    ∷ []
