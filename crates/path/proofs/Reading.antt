@@ -9,7 +9,6 @@ use lib.Dec.{leb, ltb, eqb}
 use lib.ListN.{length}
 use borrow.Author.Tests.{leb-true, ltb-true, eqb-true}
 use Rattle.wire_encoding.specs.Choice.{pick, value, refused}
-use Rattle.wire_encoding.specs.Choice as choice
 use Rattle.wire_encoding.specs.BigEndian.{bigEndian, numberAt, room}
 use Rattle.path_header.specs.MetaHeader.{
   metaOf,
@@ -18,6 +17,8 @@ use Rattle.path_header.specs.MetaHeader.{
   pathLength,
   lengthsValid,
   hopValid,
+  infoValid,
+  firstRefusal,
   checked,
   settled,
   metaRead,
@@ -30,12 +31,7 @@ use Rattle.path_header.specs.declared.meta_header.Offset.the-variants as offset
 use Rattle.path_header.specs.declared.error.Decoded.{Decoded}
 use Rattle.path_header.specs.declared.error.Decoded.the-variants as decoded
 use Rattle.path_header.specs.declared.error.DecodeError.{DecodeError}
-use Rattle.path_header.specs.declared.error.DecodeError.the-variants.{PacketEmptyOrTruncated, InvalidPath}
-use Rattle.path_header.specs.declared.error.DataplanePathErrorKind.the-variants.{
-  InvalidSegmentLengths,
-  InfoFieldOutOfRange,
-  HopFieldOutOfRange,
-}
+use Rattle.path_header.specs.declared.error.DecodeError.the-variants.{PacketEmptyOrTruncated}
 use Rattle.path_header.specs.declared.error.Answer.{Answer}
 use Rattle.path_header.specs.declared.error.Answer.the-variants as answer
 use Rattle.path_header.specs.declared.error.PathError.{PathError}
@@ -76,16 +72,11 @@ pub record Sound (m : PathMetaHeader) : Type 0 where
   pub hop : hopValid m ≡ true
 
 sound : (m : PathMetaHeader) → checked m ≡ decoded.Accepted → Sound m
-unfolding checked
+unfolding checked firstRefusal infoValid
 sound m e = go (lengthsValid m) (ltb (m .«current_info_field») (infoFieldsCount m)) (hopValid m) refl refl refl e
   where
     go : (x y z : Bool) → lengthsValid m ≡ x → ltb (m .«current_info_field») (infoFieldsCount m) ≡ y → hopValid m ≡ z
-        → pick x
-        (pick y
-        (pick z decoded.Accepted (decoded.Refused (InvalidPath HopFieldOutOfRange)))
-        (decoded.Refused (InvalidPath InfoFieldOutOfRange)))
-        (decoded.Refused (InvalidPath InvalidSegmentLengths))
-        ≡ decoded.Accepted → Sound m
+        → firstRefusal x y z ≡ decoded.Accepted → Sound m
     go true true true ex ey ez h = record { lengths = ex; info = ltb-true (m .«current_info_field») (infoFieldsCount m) ey; hop = ez }
     go true true false ex ey ez h = absurd (never h)
     go true false z ex ey ez h = absurd (never h)

@@ -96,14 +96,19 @@ unfoldable pub hopValid : PathMetaHeader → Bool
 hopValid m =
     pick (ltb (m .«current_hop_field») (hopFieldsCount m)) (eqb (segmentOf m (m .«current_hop_field»)) (m .«current_info_field»)) false
 
--- the rules in 01's order: lengths (4), info pointer (5), hop pointer (6)
-unfoldable pub checked : PathMetaHeader → Decoded
-checked m =
-    pick (lengthsValid m)
-    (pick (ltb (m .«current_info_field») (infoFieldsCount m))
-    (pick (hopValid m) Accepted (Refused (InvalidPath HopFieldOutOfRange)))
-    (Refused (InvalidPath InfoFieldOutOfRange)))
+-- the info pointer is under I
+unfoldable pub infoValid : PathMetaHeader → Bool
+infoValid m = ltb (m .«current_info_field») (infoFieldsCount m)
+
+-- 01's order: lengths (4), info pointer (5), hop pointer (6)
+unfoldable pub firstRefusal : Bool → Bool → Bool → Decoded
+firstRefusal lengths info hop =
+    pick lengths
+    (pick info (pick hop Accepted (Refused (InvalidPath HopFieldOutOfRange))) (Refused (InvalidPath InfoFieldOutOfRange)))
     (Refused (InvalidPath InvalidSegmentLengths))
+
+unfoldable pub checked : PathMetaHeader → Decoded
+checked m = firstRefusal (lengthsValid m) (infoValid m) (hopValid m)
 
 -- what a reader hands back: the header, or a header of zeros where it is refused
 unfoldable pub settled : Decoded → PathMetaHeader → MetaRead

@@ -264,27 +264,18 @@ impl PathMetaHeader {
         self.computed_info_field_index() == wide(self.current_info_field)
     }
 
-    // The rules of a meta header, in the order in which they are tested.
+    // Whether the info pointer names one of the info fields.
+    fn info_valid(self) -> bool
+        ensures { λ r. ⌜ r ≡ spec.infoValid self ⌝ }
+    {
+        wide(self.current_info_field) < self.info_fields_count()
+    }
+
+    // The rules of a meta header.
     fn check(self) -> Decoded
         ensures { λ r. ⌜ r ≡ spec.checked self ⌝ }
     {
-        if !self.lengths_valid() {
-            return Decoded::Refused(DecodeError::InvalidPath(
-                DataplanePathErrorKind::InvalidSegmentLengths,
-            ));
-        }
-        let info = wide(self.current_info_field);
-        if self.info_fields_count() <= info {
-            return Decoded::Refused(DecodeError::InvalidPath(
-                DataplanePathErrorKind::InfoFieldOutOfRange,
-            ));
-        }
-        if !self.hop_valid() {
-            return Decoded::Refused(DecodeError::InvalidPath(
-                DataplanePathErrorKind::HopFieldOutOfRange,
-            ));
-        }
-        Decoded::Accepted
+        first_refusal(self.lengths_valid(), self.info_valid(), self.hop_valid())
     }
 
     // The header that a word spells, whatever its values.
@@ -376,6 +367,28 @@ impl PathMetaHeader {
             Word::TooWide => Encoded::TooWide,
         }
     }
+}
+
+// The order in which the rules of a meta header are tested: lengths, info pointer, hop pointer.
+fn first_refusal(lengths: bool, info: bool, hop: bool) -> Decoded
+    ensures { λ r. ⌜ r ≡ spec.firstRefusal lengths info hop ⌝ }
+{
+    if !lengths {
+        return Decoded::Refused(DecodeError::InvalidPath(
+            DataplanePathErrorKind::InvalidSegmentLengths,
+        ));
+    }
+    if !info {
+        return Decoded::Refused(DecodeError::InvalidPath(
+            DataplanePathErrorKind::InfoFieldOutOfRange,
+        ));
+    }
+    if !hop {
+        return Decoded::Refused(DecodeError::InvalidPath(
+            DataplanePathErrorKind::HopFieldOutOfRange,
+        ));
+    }
+    Decoded::Accepted
 }
 
 // Whether a number has at most 2 bits.

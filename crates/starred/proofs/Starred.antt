@@ -12,7 +12,7 @@ use Rattle.starred.specs.Table.{reading, expiring, interfaceOfTwoByTwo, 
 pub starred : answers ≡ wanted
 unfolding answers wanted reading expiring interfaceOfTwoByTwo bigEndian numberAt room
     meta.nthField meta.metaOf meta.infoFieldsCount meta.hopFieldsCount meta.segmentOf meta.firstHopField meta.segmentLengthOf meta.pathLength
-    meta.interfacesCount meta.segmentOfLink meta.hopFieldOf meta.lengthsValid meta.hopValid meta.checked meta.settled meta.metaRead meta.readMeta
+    meta.interfacesCount meta.segmentOfLink meta.hopFieldOf meta.lengthsValid meta.hopValid meta.infoValid meta.firstRefusal meta.checked meta.settled meta.metaRead meta.readMeta
     fields.infoFieldAt fields.hopFieldAt fields.expiryOffset fields.expiryTime
     standard.zeroPath standard.pathRefused standard.complete standard.readPath
     segment.least segment.hopExpiry segment.segmentExpiry segment.pathExpiry

@@ -1,9 +1,4 @@
--- `check` meets its contract: lengths, info pointer, hop pointer, in that order.
-use mathlib.Core.Path.{_≡_, sym, _∙_}
-use Prim.Native.Nat.{_<_, _≤_}
-use mathlib.Core.Bool.{true}
-use native.Mathlib.Omega.{arith}
-use borrow.Author.Tests.{not-true, not-false, lt-ltb, le-ltb}
+-- `check` meets its contract: the three rules, in the order of `first_refusal`.
 use Rattle.path_header.specs.MetaHeader as spec
 use borrow.Author.Needs.{needs}
 use Rattle.path_header.proofs.meta_header.PathMetaHeader.check.Statement.{statement}
@@ -12,49 +7,25 @@ use Rattle.path_header.proofs.meta_header.PathMetaHeader.check.Tie as t
 lengths-valid-requires : tie.Need-lengths-valid-requires
 lengths-valid-requires c κs = search needs
 
-returns : tie.Need-returns
-unfolding spec.checked
-returns c = rw (sym (c .before .lengths-valid .ensures) ∙ not-true _ (c .if1 .taken))
-
-wide-requires : tie.Need-wide-requires
-wide-requires c κs = search needs
-
-info-fields-count-requires : tie.Need-info-fields-count-requires
-info-fields-count-requires c κs = search needs
-
-returns-2 : tie.Need-returns-2
-unfolding spec.checked
-returns-2 c =
-    let m = c .before .before .before .before .before .args .self in
-    let info : spec.infoFieldsCount m ≤ m .«current_info_field» = omega arith in
-    rw (sym (c .before .before .before .before .lengths-valid .ensures) ∙ not-false _ (c .before .before .before .if1 .left), le-ltb _ _ info)
+info-valid-requires : tie.Need-info-valid-requires
+info-valid-requires c κs = search needs
 
 hop-valid-requires : tie.Need-hop-valid-requires
 hop-valid-requires c κs = search needs
 
-returns-3 : tie.Need-returns-3
-unfolding spec.checked
-returns-3 c =
-    let m = c .before .before .before .before .before .before .before .args .self in
-    let info : m .«current_info_field» < spec.infoFieldsCount m = omega arith in
-    rw (sym (c .before .before .before .before .before .before .lengths-valid .ensures) ∙ not-false _ (c .before .before .before .before .before .if1 .left), lt-ltb _ _ info, sym (c .before .hop-valid .ensures) ∙ not-true _ (c .if3 .taken))
+first-refusal-requires : tie.Need-first-refusal-requires
+first-refusal-requires c κs = search needs
 
-returns-4 : tie.Need-returns-4
+returns : tie.Need-returns
 unfolding spec.checked
-returns-4 c =
-    let m = c .before .before .before .before .before .before .before .args .self in
-    let info : m .«current_info_field» < spec.infoFieldsCount m = omega arith in
-    rw (sym (c .before .before .before .before .before .before .lengths-valid .ensures) ∙ not-false _ (c .before .before .before .before .before .if1 .left), lt-ltb _ _ info, sym (c .before .hop-valid .ensures) ∙ not-false _ (c .if3 .left))
+returns c = rw (← c .before .before .before .lengths-valid .ensures, ← c .before .before .info-valid .ensures, ← c .before .hop-valid .ensures) (c .first-refusal .ensures)
 
 pub check-spec : {M : Type 1} → statement M
 check-spec =
     tie.close
     (tie.spec
     lengths-valid-requires
-    returns
-    wide-requires
-    info-fields-count-requires
-    returns-2
+    info-valid-requires
     hop-valid-requires
-    returns-3
-    returns-4)
+    first-refusal-requires
+    returns)
