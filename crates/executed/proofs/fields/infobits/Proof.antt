@@ -1,0 +1,50 @@
+-- `infobits` is safe and ends: the number is a byte in each turn.
+use borrow.Author.Needs.{needs}
+use Prim.Native.Nat.{_-_, _≤_}
+use Rattle.executed.proofs.fields.infobits.Statement.{statement}
+use Rattle.executed.proofs.fields.infobits.Tie as tie
+
+abbrev Inv-loop : tie.InvT-loop
+Inv-loop line is-peering flags₀ flags = flags ≤ 256
+
+abbrev μ-loop : tie.MeasureT-loop
+μ-loop line is-peering flags₀ flags = 256 - flags
+
+flag-at-requires : tie.Need-flag-at-requires Inv-loop μ-loop
+flag-at-requires c κs = search needs
+
+loop-holds : tie.Need-loop-holds Inv-loop μ-loop
+loop-holds c = search needs
+
+cast-info-bit : tie.Need-cast-info-bit Inv-loop μ-loop
+cast-info-bit c = search needs
+
+info-bit-requires : tie.Need-info-bit-requires Inv-loop μ-loop
+info-bit-requires c κs = search needs
+
+add-flags : tie.Need-add-flags Inv-loop μ-loop
+add-flags c = search needs
+
+loop-less : tie.Need-loop-less Inv-loop μ-loop
+loop-less c = search needs
+
+loop-again : tie.Need-loop-again Inv-loop μ-loop
+loop-again c = search needs
+
+returns : tie.Need-returns Inv-loop μ-loop
+returns c = search needs
+
+pub infobits-spec : {M : Type 1} → statement M
+infobits-spec =
+    tie.close
+    (tie.spec
+    Inv-loop
+    μ-loop
+    flag-at-requires
+    loop-holds
+    cast-info-bit
+    info-bit-requires
+    add-flags
+    loop-less
+    loop-again
+    returns)

@@ -1,0 +1,200 @@
+// Calls on the meta header of a path.
+use crate::print;
+use crate::words;
+use path_header::meta_header::Encoded;
+use path_header::meta_header::HopFieldOf;
+use path_header::meta_header::Offset;
+use path_header::meta_header::PathMetaHeader;
+use path_header::meta_header::Word;
+
+// The pointers, the reserved bits and the three lengths.
+pub fn record(meta_header: PathMetaHeader) {
+    let lengths = meta_header.segment_lengths;
+    print::byte(meta_header.current_info_field);
+    print::byte(meta_header.current_hop_field);
+    print::byte(meta_header.reserved);
+    print::byte(lengths[0]);
+    print::byte(lengths[1]);
+    print::byte(lengths[2]);
+}
+
+// The header of the six bytes in words 1 to 6.
+fn record_at(line: &[u8]) -> PathMetaHeader {
+    let first = words::u8_at(line, 4);
+    let second = words::u8_at(line, 5);
+    let third = words::u8_at(line, 6);
+    PathMetaHeader {
+        current_info_field: words::u8_at(line, 1),
+        current_hop_field: words::u8_at(line, 2),
+        reserved: words::u8_at(line, 3),
+        segment_lengths: [first, second, third],
+    }
+}
+
+// The header of the lengths in words 1 to 3, at its start.
+fn lengths_at(line: &[u8]) -> PathMetaHeader {
+    let first = words::u8_at(line, 1);
+    let second = words::u8_at(line, 2);
+    let third = words::u8_at(line, 3);
+    PathMetaHeader {
+        current_info_field: 0,
+        current_hop_field: 0,
+        reserved: 0,
+        segment_lengths: [first, second, third],
+    }
+}
+
+// `meta B`: the header that begins the bytes.
+fn meta(line: &[u8]) {
+    let mut room = words::room();
+    let length = words::bytes_at(line, 1, &mut room);
+    let read = PathMetaHeader::decode(&room[..length]);
+    let answer = read.answer;
+    let meta_header = read.meta_header;
+    print::decoded(answer);
+    record(meta_header);
+}
+
+// The number of `meta`'s answer for a first byte and the three after it.
+fn first(first: u8, bytes: &[u8]) {
+    if bytes.len() < 4 {
+        return;
+    }
+    let header = [first, bytes[1], bytes[2], bytes[3]];
+    let answer = PathMetaHeader::decode(&header).answer;
+    print::decoded_number(answer);
+}
+
+// The numbers for every first byte, from 0 on.
+fn each_first(bytes: &[u8]) {
+    for byte in 0usize..256 {
+        first(byte as u8, bytes);
+    }
+}
+
+// `firsts B`: the number of `meta`'s answer for every byte in the place of B's first of 4.
+fn firsts(line: &[u8]) {
+    let mut room = words::room();
+    let length = words::bytes_at(line, 1, &mut room);
+    each_first(&room[..length]);
+}
+
+// A header as one number after 0, or 10.
+fn word(word: Word) {
+    match word {
+        Word::Value(number) => {
+            print::number(0);
+            print::number(number as u64);
+        }
+        Word::TooWide => {
+            print::number(10);
+            print::number(0);
+        }
+    }
+}
+
+// The lengths of the reversed header.
+fn reversed(meta_header: PathMetaHeader) {
+    let reversed = meta_header.to_reversed();
+    let lengths = reversed.segment_lengths;
+    print::byte(lengths[0]);
+    print::byte(lengths[1]);
+    print::byte(lengths[2]);
+}
+
+// `counts C H R a b c`: what a header of these fields counts, its word and its reversed lengths.
+fn counts(line: &[u8]) {
+    let meta_header = record_at(line);
+    print::number(meta_header.info_fields_count() as u64);
+    print::number(meta_header.hop_fields_count() as u64);
+    print::number(meta_header.interfaces_count() as u64);
+    print::number(meta_header.encoded_path_length() as u64);
+    print::number(meta_header.computed_info_field_index() as u64);
+    word(meta_header.as_u32());
+    reversed(meta_header);
+}
+
+// Document 01's number of a header's writing.
+fn encoded(answer: Encoded) {
+    match answer {
+        Encoded::Done => print::number(0),
+        Encoded::TooWide => print::number(10),
+        Encoded::InadequateBufferSize => print::number(9),
+    }
+}
+
+// `encode C H R a b c B`: a header written to a destination that holds B.
+fn encode(line: &[u8]) {
+    let meta_header = record_at(line);
+    let mut room = words::room();
+    let length = words::bytes_at(line, 7, &mut room);
+    let dst = &mut room[..length];
+    encoded(meta_header.encode_to(dst));
+    print::bytes(dst);
+}
+
+// `ifhop a b c i`: the hop field of interface i.
+fn ifhop(line: &[u8]) {
+    let meta_header = lengths_at(line);
+    match meta_header.hop_field_index_for_interface(words::index_at(line, 4)) {
+        HopFieldOf::Index(index) => {
+            print::number(0);
+            print::number(index as u64);
+        }
+        HopFieldOf::NoSuchInterface => {
+            print::number(8);
+            print::number(0);
+        }
+    }
+}
+
+// Where a field starts after 0, or 8.
+fn start(offset: Offset) {
+    match offset {
+        Offset::At(at) => {
+            print::number(0);
+            print::number(at as u64);
+        }
+        Offset::NoSuchField => {
+            print::number(8);
+            print::number(0);
+        }
+    }
+}
+
+// `offset a b c i`: where info field i starts, and hop field i.
+fn offset(line: &[u8]) {
+    let meta_header = lengths_at(line);
+    let index = words::index_at(line, 4);
+    start(meta_header.info_field_offset(index));
+    start(meta_header.hop_field_offset(index));
+}
+
+// Answers a call of this file; whether the line is one.
+pub fn answer(line: &[u8]) -> bool {
+    if words::is_call(line, b"meta ", b"s") {
+        meta(line);
+        return true;
+    }
+    if words::is_call(line, b"firsts ", b"s") {
+        firsts(line);
+        return true;
+    }
+    if words::is_call(line, b"counts ", b"bbbbbb") {
+        counts(line);
+        return true;
+    }
+    if words::is_call(line, b"encode ", b"bbbbbbs") {
+        encode(line);
+        return true;
+    }
+    if words::is_call(line, b"ifhop ", b"bbbn") {
+        ifhop(line);
+        return true;
+    }
+    if words::is_call(line, b"offset ", b"bbbn") {
+        offset(line);
+        return true;
+    }
+    false
+}
