@@ -4,6 +4,7 @@ mod fields;
 mod headers;
 mod paths;
 mod print;
+mod travel;
 mod values;
 mod words;
 
@@ -21,6 +22,9 @@ fn is_call(line: &[u8]) -> bool {
 // Prints the answer to a call, or `?` where the line is none.
 fn answer(line: &[u8]) {
     if paths::answer(line) {
+        return;
+    }
+    if travel::answer(line) {
         return;
     }
     if headers::answer(line) {

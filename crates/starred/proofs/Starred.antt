@@ -1,21 +1,24 @@
 -- The starred inputs: one table, one theorem, by computing every row.
 -- Assumes nothing.
 use mathlib.Core.Path.{_≡_, refl}
-use Rattle.wire_encoding.specs.BigEndian.{bigEndian, numberAt, room}
+use Rattle.wire_encoding.specs.BigEndian.{bigEndian, bytesOf, numberAt, room}
 use Rattle.path_header.specs.MetaHeader as meta
 use Rattle.path_header.specs.Fields as fields
 use Rattle.path.specs.Standard as standard
 use Rattle.path.specs.Segment as segment
 use Rattle.path.specs.Dataplane as dataplane
-use Rattle.starred.specs.Table.{reading, expiring, interfaceOfTwoByTwo, answers, wanted}
+use Rattle.moves.specs.Moves as moves
+use Rattle.starred.specs.Table.{reading, expiring, interfaceOfTwoByTwo, moving, answers, wanted}
 
 pub starred : answers ≡ wanted
-unfolding answers wanted reading expiring interfaceOfTwoByTwo bigEndian numberAt room
+unfolding answers wanted reading expiring interfaceOfTwoByTwo moving bigEndian bytesOf numberAt room
     meta.nthField meta.metaOf meta.infoFieldsCount meta.hopFieldsCount meta.segmentOf meta.firstHopField meta.segmentLengthOf meta.pathLength
     meta.interfacesCount meta.segmentOfLink meta.hopFieldOf meta.lengthsValid meta.hopValid meta.infoValid meta.firstRefusal meta.checked meta.settled meta.metaRead meta.readMeta
     fields.infoFieldAt fields.hopFieldAt fields.expiryOffset fields.expiryTime
     standard.zeroPath standard.pathRefused standard.complete standard.readPath
     segment.least segment.hopExpiry segment.segmentExpiry segment.pathExpiry
     dataplane.unread dataplane.standardRead dataplane.readDataplane dataplane.answerRefused dataplane.standardAnswer dataplane.standardOf
-    dataplane.carriedOut dataplane.onStandard dataplane.expiryIn dataplane.interfaceFound dataplane.interfaceIn
+    dataplane.carriedOut dataplane.onStandard dataplane.expiryIn dataplane.interfaceFound dataplane.interfaceIn dataplane.answered
+    moves.ownerOf moves.spared moves.changeInside moves.positionOf moves.moveFrom moves.atPosition moves.applied moves.movedMeta moves.moveBytes
+    moves.peerings moves.peeringAllowed moves.stateOf moves.movableOf moves.onMovable moves.notLast moves.moveAnswer moves.moved
 starred = refl

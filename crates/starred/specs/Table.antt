@@ -4,6 +4,8 @@ use mathlib.Core.List.{List, [], _∷_, _++_}
 use lib.ListN.{replicate}
 use Rattle.path_header.specs.Errors.{decodedNumber, answerNumber}
 use Rattle.path.specs.Dataplane.{readDataplane, expiryIn, interfaceIn}
+use Rattle.wire_encoding.specs.BigEndian.{bigEndian}
+use Rattle.moves.specs.Moves.{moveAnswer, moved}
 
 -- reading a standard path of these meta bytes, enough following: the answer's number, and the path's length in bytes
 unfoldable pub reading : List ℕ → List ℕ
@@ -23,6 +25,12 @@ interfaceOfTwoByTwo i =
     let found = interfaceIn 1 ((0x00 ∷ 0x00 ∷ 0x20 ∷ 0x80 ∷ []) ++ replicate 64 0) i in
     answerNumber (found .answer) ∷ found .«hop_field» ∷ []
 
+-- a single move of a path of two hop fields in construction direction, accumulator 1111, first code A0 0B: the answer's number, and the accumulator
+unfoldable pub moving : List ℕ
+moving =
+    let path : List ℕ = (0x00 ∷ 0x00 ∷ 0x20 ∷ 0x00 ∷ 0x01 ∷ 0x00 ∷ 0x11 ∷ 0x11 ∷ []) ++ replicate 10 0 ++ (0xA0 ∷ 0x0B ∷ []) ++ replicate 16 0 in
+    answerNumber (moveAnswer 1 path .answer) ∷ bigEndian 2 (moved 1 path) 6 ∷ []
+
 -- what is answered
 unfoldable pub answers : List (List ℕ)
 answers =
@@ -37,6 +45,7 @@ answers =
     ∷ expiring (0x00 ∷ 0x00 ∷ 0x00 ∷ 0x01 ∷ []) 0x00
     ∷ expiring (0xFF ∷ 0xFF ∷ 0xFF ∷ 0xFF ∷ []) 0xFF
     ∷ interfaceOfTwoByTwo 2
+    ∷ moving
     ∷ []
 
 -- what document 01 says
@@ -53,4 +62,5 @@ wanted =
     ∷ (0 ∷ 338500 ∷ [])
     ∷ (0 ∷ 4295053695000 ∷ [])
     ∷ (0 ∷ 2 ∷ [])
+    ∷ (0 ∷ 0xB11A ∷ [])
     ∷ []

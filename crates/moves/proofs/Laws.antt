@@ -1,0 +1,341 @@
+-- What is known of a path that can be moved, and that a move leaves such a path.
+-- Assumes nothing.
+use Prim.Native.Nat.{ℕ, zero, suc, _+_, _*_, _/_, _%_, _^_, _≤_, _<_}
+use mathlib.Core.Path.{_≡_, refl, sym, ap, _∙_, subst}
+use mathlib.Core.Bool.{Bool, true, false}
+use mathlib.Core.List.{List}
+use native.Mathlib.Nat.{add-zero, add-suc}
+use native.Mathlib.Omega.{arith}
+use lib.Dec.{ltb, eqb}
+use lib.Bits.{bitXor}
+use lib.ListN.{length, getD, set, length-set}
+use lib.Seq.{length-sets, getD-set-same, getD-set-other}
+use borrow.Author.Tests.{lt-ltb, le-ltb, le-leb, eq-eqb, ltb-false, eqb-true}
+use Rattle.wire_encoding.specs.Choice.{pick}
+use Rattle.wire_encoding.specs.BigEndian.{bigEndian, bytesOf, placed, numberAt, room}
+use Rattle.wire_encoding.proofs.Parts.{Bytes}
+use Rattle.wire_encoding.proofs.Numbers.{length-bytesOf}
+use Rattle.wire_encoding.proofs.Writes.{placed-is}
+use Rattle.path_header.specs.MetaHeader as meta
+use Rattle.path_header.specs.declared.meta_header.PathMetaHeader.{PathMetaHeader}
+use Rattle.path_header.specs.declared.error.Decoded.{Decoded}
+use Rattle.path_header.specs.declared.error.Decoded.the-variants as decoded
+use Rattle.path_header.specs.declared.error.Answer.{Answer}
+use Rattle.path_header.specs.declared.error.Answer.the-variants.{Accepted, Refused}
+use Rattle.path_header.specs.declared.error.PathError.{PathError}
+use Rattle.path_header.specs.declared.error.PathError.the-variants.{TooManyHopFields, PeeringNotOnBoth}
+use Rattle.path.specs.Standard.{complete, readPath}
+use Rattle.path.specs.Segment.{infoStart}
+use Rattle.path.specs.Dataplane.{standardRead, readDataplane, answerRefused, standardAnswer, standardOf, carriedOut, onStandard, answered}
+use Rattle.path.specs.declared.standard.StandardPath.{StandardPath}
+use Rattle.path.specs.declared.dataplane.PathAnswer.{PathAnswer}
+use Rattle.path.proofs.Reading.{Sound, Readable, standard-readable}
+use Rattle.path.proofs.Links.{segment-below}
+use Rattle.moves.specs.declared.Position.{Position}
+use Rattle.moves.specs.declared.Moved.{Moved}
+use Rattle.moves.specs.Moves as spec
+use Rattle.moves.specs.Moves.{Movable, CanMove}
+
+-- no answer is both
+never : {error : PathError} → Refused error ≡ Accepted → ⊥
+never h = let z : _≡_ {A = ℕ} 0 1 = cc in omega arith
+
+-- the answer of a call that goes on with this header
+abbrev pub accepted : PathMetaHeader → PathAnswer
+accepted m = record { answer = Accepted; path = record { «meta_header» = m } }
+
+-- WHAT IS KNOWN OF A PATH THAT CAN BE MOVED
+
+pub record Known (bytes : List ℕ) (m : PathMetaHeader) : Type 0 where
+  pub path : Readable bytes m
+  pub few : meta.hopFieldsCount m ≤ 64
+  pub peering : spec.peeringAllowed bytes m ≡ true
+
+module _ (bytes : List ℕ) where
+  state-known : (m : PathMetaHeader) → spec.stateOf bytes m ≡ Accepted → (meta.hopFieldsCount m ≤ 64) × (spec.peeringAllowed bytes m ≡ true)
+  unfolding spec.stateOf
+  state-known m h = go (ltb 64 (meta.hopFieldsCount m)) (spec.peeringAllowed bytes m) refl refl h
+    where
+      go : (x y : Bool) → ltb 64 (meta.hopFieldsCount m) ≡ x → spec.peeringAllowed bytes m ≡ y
+          → pick x (Refused TooManyHopFields) (pick y Accepted (Refused PeeringNotOnBoth)) ≡ Accepted → (meta.hopFieldsCount m ≤ 64) × (spec.peeringAllowed bytes m ≡ true)
+      go true y ex ey h = absurd (never h)
+      go false true ex ey h = (ltb-false 64 (meta.hopFieldsCount m) ex, ey)
+      go false false ex ey h = absurd (never h)
+
+  pub known : (type : ℕ) → spec.movableOf type bytes .answer ≡ Accepted → Known bytes (spec.movableOf type bytes .path .«meta_header»)
+  unfolding spec.movableOf onStandard carriedOut answered answerRefused
+  known type h = go (standardOf type bytes .answer) refl h
+    where
+      by : (a : Answer) (path : StandardPath) → Readable bytes (path .«meta_header») → spec.stateOf bytes (path .«meta_header») ≡ a
+          → answered a path .answer ≡ Accepted → Known bytes (answered a path .path .«meta_header»)
+      by Accepted path r e h =
+          let state = state-known (path .«meta_header») e in
+          record { path = r; few = state .0; peering = state .1 }
+      by (Refused error) path r e h = absurd (never h)
+
+      go : (a : Answer) → standardOf type bytes .answer ≡ a
+          → carriedOut a (standardOf type bytes .path) answerRefused (λ path. answered (spec.stateOf bytes (path .«meta_header»)) path) .answer ≡ Accepted
+          → Known bytes
+          (carriedOut a (standardOf type bytes .path) answerRefused (λ path. answered (spec.stateOf bytes (path .«meta_header»)) path) .path .«meta_header»)
+      go Accepted e h = by (spec.stateOf bytes (standardOf type bytes .path .«meta_header»)) (standardOf type bytes .path) (standard-readable bytes type e) refl h
+      go (Refused error) e h = absurd (never h)
+
+  -- its type is 1
+  pub type-one : (type : ℕ) → spec.movableOf type bytes .answer ≡ Accepted → type ≡ 1
+  unfolding spec.movableOf onStandard carriedOut answerRefused standardOf standardAnswer
+  type-one type h = go (readDataplane type bytes .answer) (eqb type 1) refl refl
+    where
+      go : (a : Decoded) (t : Bool) → readDataplane type bytes .answer ≡ a → eqb type 1 ≡ t → type ≡ 1
+      go decoded.Accepted true ea et = eqb-true type 1 et
+      go decoded.Accepted false ea et = absurd (never (rw (ea, et) at h))
+      go (decoded.Refused error) t ea et = absurd (never (rw ea at h))
+
+  -- as a function that called `movable` knows it
+  pub goes-on : (type : ℕ) {r : PathAnswer} → r ≡ spec.movableOf type bytes → r .answer ≡ Accepted → Movable bytes (r .path .«meta_header»)
+  goes-on type {r} e h =
+      let one : type ≡ 1 = type-one type (ap (λ (x : PathAnswer). x .answer) (sym e) ∙ h) in
+      record { read = sym (rw one at e) ∙ ap (λ (a : Answer). record { answer = a; path = r .path }) h }
+
+module _ (bytes : List ℕ) (m : PathMetaHeader) where
+  pub movable-known : Movable bytes m → Known bytes m
+  movable-known able =
+      subst (λ (r : PathAnswer). Known bytes (r .path .«meta_header»)) (able .read) (known bytes 1 (ap (λ (r : PathAnswer). r .answer) (able .read)))
+
+  four : meta.pathLength m ≤ length bytes → 4 ≤ length bytes
+  unfolding meta.pathLength
+  four h = omega arith
+
+  -- and the other way round: such a path is read
+  path-read : Readable bytes m → readPath bytes ≡ record { answer = decoded.Accepted; path = record { «meta_header» = m } }
+  unfolding readPath complete meta.readMeta meta.metaRead meta.settled meta.checked meta.firstRefusal meta.infoValid numberAt room
+  path-read r =
+      rw (le-leb 4 (length bytes) (four (r .whole)), ← r .word, r .sound-meta .lengths, lt-ltb _ _ (r .sound-meta .info), r .sound-meta .hop, le-leb _ _ (r .whole))
+
+  pub standard-read : Readable bytes m → standardOf 1 bytes ≡ accepted m
+  unfolding standardOf standardAnswer readDataplane standardRead
+  standard-read r = rw (path-read r)
+
+  pub known-movable : Known bytes m → Movable bytes m
+  unfolding spec.movableOf onStandard carriedOut answered spec.stateOf
+  known-movable k = record { read = rw (standard-read (k .path), le-ltb _ _ (k .few), k .peering) }
+
+-- WHAT A MOVE KEEPS
+
+-- a word whose first byte is replaced: its first two fields are that byte's, and the others stay
+first-fields : (info hop low : ℕ) → info < 4 → hop < 64 → low < 2 ^ 24
+    → (meta.nthField ((info * 64 + hop) * 2 ^ 24 + low) 0 ≡ info) × (meta.nthField ((info * 64 + hop) * 2 ^ 24 + low) 1 ≡ hop)
+unfolding meta.nthField
+first-fields info hop low i h l = (omega arith, omega arith)
+
+abbrev Stays : ℕ → ℕ → ℕ → ℕ → Type 0
+Stays v b low n = meta.nthField (v * 2 ^ 24 + low) n ≡ meta.nthField (b * 2 ^ 24 + low) n
+
+other-fields : (v b low : ℕ) → Stays v b low 2 × Stays v b low 3 × Stays v b low 4 × Stays v b low 5
+unfolding meta.nthField
+other-fields v b low = (omega arith, omega arith, omega arith, omega arith)
+
+-- the three bytes after the first
+abbrev lowOf : List ℕ → ℕ
+lowOf bytes = (getD bytes 1 0 * 256 + getD bytes 2 0) * 256 + getD bytes 3 0
+
+first-byte : (bytes : List ℕ) → bigEndian 4 bytes 0 ≡ getD bytes 0 0 * 2 ^ 24 + lowOf bytes
+unfolding bigEndian
+first-byte bytes = omega arith
+
+low-below : (bytes : List ℕ) → Bytes bytes → lowOf bytes < 2 ^ 24
+low-below bytes b = omega (arith, b 1, b 2, b 3)
+
+-- the byte of two pointers
+abbrev pointers : Position → ℕ
+pointers p = p .«current_info_field» * 64 + p .«current_hop_field»
+
+-- a header whose pointers were replaced is spelt by the word whose first byte was
+spelt : (w low : ℕ) (m : PathMetaHeader) (p : Position) → p .«current_info_field» < 4 → p .«current_hop_field» < 64 → low < 2 ^ 24
+    → m ≡ meta.metaOf (w * 2 ^ 24 + low) → spec.atPosition m p ≡ meta.metaOf (pointers p * 2 ^ 24 + low)
+unfolding meta.metaOf spec.atPosition
+spelt w low m p i h l r =
+    let two = first-fields (p .«current_info_field») (p .«current_hop_field») low i h l in
+    let rest = other-fields (pointers p) w low in
+    rw (r, two .0, two .1, rest .0, rest .1, rest .2, rest .3)
+
+-- a move writes the first byte and two bytes of an info field that are not its flags: no length, no other byte of the meta header, no flags
+module _ (bytes : List ℕ) (k : ℕ) (move : Moved) where
+  abbrev pointed : List ℕ
+  pointed = set bytes 0 (pointers (move .position))
+
+  abbrev at : ℕ
+  at = infoStart k + 2
+
+  abbrev number : ℕ
+  number = bitXor (bigEndian 2 bytes at) (move .change)
+
+  length-applied : length (spec.applied bytes k move) ≡ length bytes
+  unfolding spec.applied
+  length-applied = length-sets pointed at (bytesOf 2 number) ∙ length-set bytes 0 (pointers (move .position))
+
+  -- the second of its two writes has room
+  pub applied-placed : at + 2 ≤ length bytes → placed pointed at (bytesOf 2 number) ≡ spec.applied bytes k move
+  unfolding spec.applied
+  applied-placed h =
+      placed-is pointed at (bytesOf 2 number) 2 (length-bytesOf 2 number) (simp length-set h)
+
+  beside : (j : ℕ) → (j ≡ at → ⊥) → (j ≡ suc at → ⊥) → getD (spec.applied bytes k move) j 0 ≡ getD pointed j 0
+  unfolding spec.applied bytesOf
+  beside j x y =
+      getD-set-other (set pointed at (number / 256 % 256)) (suc at) j (number % 256) 0 y
+      ∙ getD-set-other pointed at j (number / 256 % 256) 0 x
+
+  first : 0 < length bytes → getD (spec.applied bytes k move) 0 0 ≡ pointers (move .position)
+  first h = beside 0 (λ e. omega arith) (λ e. omega arith) ∙ getD-set-same bytes 0 (pointers (move .position)) 0 h
+
+  other : (j : ℕ) → (j ≡ 0 → ⊥) → (j ≡ at → ⊥) → (j ≡ suc at → ⊥) → getD (spec.applied bytes k move) j 0 ≡ getD bytes j 0
+  other j x y z = beside j y z ∙ getD-set-other bytes 0 j (pointers (move .position)) 0 x
+
+  header-kept : (j : ℕ) → 0 < j → j < 4 → getD (spec.applied bytes k move) j 0 ≡ getD bytes j 0
+  header-kept j above below = other j (λ e. omega arith) (λ e. omega arith) (λ e. omega arith)
+
+  low-kept : lowOf (spec.applied bytes k move) ≡ lowOf bytes
+  low-kept =
+      rw (header-kept 1 (omega arith) (omega arith), header-kept 2 (omega arith) (omega arith), header-kept 3 (omega arith) (omega arith))
+
+  flags-kept : (j : ℕ) → spec.flagsAt (spec.applied bytes k move) j ≡ spec.flagsAt bytes j
+  flags-kept j = other (infoStart j) (λ e. omega arith) (λ e. omega arith) (λ e. omega arith)
+
+  peerings-kept : (n : ℕ) → spec.peerings (spec.applied bytes k move) n ≡ spec.peerings bytes n
+  unfolding spec.peerings
+  peerings-kept zero = refl
+  peerings-kept (suc n) = rw (peerings-kept n, flags-kept n)
+
+pub length-moveBytes : (bytes : List ℕ) (m : PathMetaHeader) → length (spec.moveBytes bytes m) ≡ length bytes
+unfolding spec.moveBytes
+length-moveBytes bytes m = length-applied bytes (m .«current_info_field») (spec.moveFrom bytes m (spec.positionOf m))
+
+-- there are at most three info fields
+infos-few : (m : PathMetaHeader) → meta.infoFieldsCount m ≤ 3
+unfolding meta.infoFieldsCount
+infos-few m = go (eqb (meta.segmentLength m 0) 0) (eqb (meta.segmentLength m 1) 0) (eqb (meta.segmentLength m 2) 0)
+  where
+    go : (x y z : Bool) → pick x 0 (pick y 1 (pick z 2 3)) ≤ 3
+    go true y z = omega arith
+    go false true z = omega arith
+    go false false true = omega arith
+    go false false false = omega arith
+
+-- what the code asks of a path that is not at its last hop field
+pub record Standing (bytes : List ℕ) (m : PathMetaHeader) : Type 0 where
+  pub info : m .«current_info_field» < meta.infoFieldsCount m
+  pub infos : meta.infoFieldsCount m ≤ 3
+  pub next : meta.segmentOf m (m .«current_hop_field» + 1) < meta.infoFieldsCount m
+  pub hop : m .«current_hop_field» + 1 < meta.hopFieldsCount m
+  pub hops : meta.hopFieldsCount m ≤ 64
+  pub whole : 4 + meta.infoFieldsCount m * 8 + meta.hopFieldsCount m * 12 ≤ length bytes
+
+module _ (bytes : List ℕ) (m : PathMetaHeader) (can : CanMove bytes m) where
+  abbrev able : Known bytes m
+  able = movable-known bytes m (can .movable)
+
+  pub standing : Standing bytes m
+  unfolding meta.pathLength
+  standing =
+      let path = able .path in
+      record {
+        info = path .sound-meta .info;
+        infos = infos-few m;
+        next = segment-below m (path .sound-meta .lengths) (m .«current_hop_field» + 1) (can .before-last);
+        hop = can .before-last;
+        hops = able .few;
+        whole = path .whole;
+      }
+
+  -- the same of a position that is the header's own
+  pub standing-at : {p : Position} → p ≡ spec.positionOf m
+      → Standing bytes m × (p .«current_info_field» ≡ m .«current_info_field») × (p .«current_hop_field» ≡ m .«current_hop_field»)
+  unfolding spec.positionOf
+  standing-at e = (standing, ap (λ (p : Position). p .«current_info_field») e, ap (λ (p : Position). p .«current_hop_field») e)
+
+  abbrev move : Moved
+  move = spec.moveFrom bytes m (spec.positionOf m)
+
+  abbrev after : List ℕ
+  after = spec.moveBytes bytes m
+
+  abbrev left : PathMetaHeader
+  left = spec.movedMeta bytes m
+
+  -- the new pointers fit their bits
+  pub fits : {v : Moved} → v ≡ move → (v .position .«current_info_field» < 4) × (v .position .«current_hop_field» < 64)
+  unfolding spec.moveFrom spec.positionOf
+  fits e = let s = standing in rw e (omega arith, omega arith)
+
+  -- the bytes after the move spell the header that it leaves
+  word-moved : Bytes bytes → left ≡ meta.metaOf (bigEndian 4 after 0)
+  unfolding spec.movedMeta spec.moveBytes spec.moveFrom spec.positionOf
+  word-moved b =
+      let s = standing in
+      let k = m .«current_info_field» in
+      let low : lowOf after ≡ lowOf bytes = low-kept bytes k move in
+      let head : getD after 0 0 ≡ pointers (move .position) = first bytes k move (omega arith) in
+      let old : m ≡ meta.metaOf (getD bytes 0 0 * 2 ^ 24 + lowOf bytes) = able .path .word ∙ ap meta.metaOf (first-byte bytes) in
+      rw (first-byte after, head, low)
+      (spelt (getD bytes 0 0) (lowOf bytes) m (move .position) (omega arith) (omega arith) (low-below bytes b) old)
+
+  -- and are as many, with the same segments, and the same peering
+  sound-moved : Sound left
+  unfolding spec.movedMeta spec.atPosition spec.moveFrom spec.positionOf meta.lengthsValid meta.infoFieldsCount meta.hopValid meta.hopFieldsCount meta.segmentOf
+  sound-moved =
+      let path = able .path in
+      record {
+        lengths = path .sound-meta .lengths;
+        info = standing .next;
+        hop = rw (lt-ltb _ _ (can .before-last), eq-eqb _ _ refl);
+      }
+
+  pub counts-kept : (meta.infoFieldsCount left ≡ meta.infoFieldsCount m) × (meta.hopFieldsCount left ≡ meta.hopFieldsCount m)
+  unfolding spec.movedMeta spec.atPosition meta.infoFieldsCount meta.hopFieldsCount
+  counts-kept = (refl, refl)
+
+  whole-moved : meta.pathLength left ≤ length after
+  unfolding meta.pathLength
+  whole-moved = omega (arith, counts-kept, length-moveBytes bytes m, standing .whole)
+
+  peering-moved : spec.peeringAllowed after left ≡ true
+  unfolding spec.moveBytes spec.peeringAllowed
+  peering-moved = rw (counts-kept .0, peerings-kept bytes (m .«current_info_field») move (meta.infoFieldsCount m)) (able .peering)
+
+  -- so it can be moved
+  pub moved-known : Bytes bytes → Known after left
+  moved-known b =
+      record {
+        path = record { sound-meta = sound-moved; whole = whole-moved; word = word-moved b };
+        few = omega (arith, counts-kept, able .few);
+        peering = peering-moved;
+      }
+
+  -- a single move, of type 1
+  pub one-move : spec.moved 1 bytes ≡ after
+  unfolding spec.moved spec.onMovable spec.notLast carriedOut
+  one-move = rw (can .movable .read, lt-ltb _ _ (can .before-last))
+
+-- FOR LATER USE
+
+-- no move changes how many bytes there are
+pub length-moved : (type : ℕ) (bytes : List ℕ) → length (spec.moved type bytes) ≡ length bytes
+unfolding spec.moved spec.onMovable carriedOut
+length-moved type bytes = go (spec.movableOf type bytes .answer)
+  where
+    by : (m : PathMetaHeader) (t : Bool) → length (pick t (spec.moveBytes bytes m) bytes) ≡ length bytes
+    by m true = length-moveBytes bytes m
+    by m false = refl
+
+    go : (a : Answer)
+        → length
+        (carriedOut a (spec.movableOf type bytes .path) (λ error. bytes)
+        (λ path. pick (spec.notLast (path .«meta_header»)) (spec.moveBytes bytes (path .«meta_header»)) bytes))
+        ≡ length bytes
+    go Accepted = let m = spec.movableOf type bytes .path .«meta_header» in by m (spec.notLast m)
+    go (Refused error) = refl
+
+-- a moves, then b, are a + b moves
+pub walk-add : {A : Type 0} (a b : ℕ) (f : A → A) (x : A) → spec.iterate (a + b) f x ≡ spec.iterate b f (spec.iterate a f x)
+walk-add a zero f x = rw add-zero
+walk-add a (suc b) f x = rw add-suc (ap f (walk-add a b f x))

@@ -1,0 +1,305 @@
+// Moves: how a packet's path goes from hop field to hop field. Move, walk and owner are document 01's words.
+use path::dataplane::DataplanePath;
+use path::dataplane::PathAnswer;
+use path::standard::StandardPath;
+use path_header::error::Answer;
+use path_header::error::PathError;
+use path_header::fields::HopField;
+use path_header::fields::InfoField;
+use path_header::meta_header::PathMetaHeader;
+use wire_encoding::read::Read16;
+use wire_encoding::read::get_u16;
+use wire_encoding::read::wide;
+use wire_encoding::write::put_u16;
+ghost use mathlib.Core.Path.{_≡_};
+ghost use Prim.Native.Nat.{_+_, _≤_, _<_};
+ghost use lib.ListN.{length};
+ghost use Rattle.wire_encoding.specs.BigEndian.{bigEndian};
+ghost use Rattle.path_header.specs.MetaHeader.{pathLength};
+ghost use Rattle.path.specs.Segment.{infoStart};
+ghost use Rattle.moves.specs.Moves as spec;
+
+// The pair of pointers in a path's bytes.
+pub struct Position {
+    pub current_info_field: u8,
+    pub current_hop_field: u8,
+}
+
+// A move: the new position, and what the accumulator of the segment that was left changes by.
+pub struct Moved {
+    pub position: Position,
+    pub change: u16,
+}
+
+// A walk: how many moves it made, and whether it stands at the last hop field; all zero where it was refused.
+pub struct WalkAnswer {
+    pub answer: Answer,
+    pub path: StandardPath,
+    pub moves: usize,
+    pub arrived: bool,
+}
+
+// How many moves a walk made, and the header that it left.
+pub struct Walked {
+    pub meta_header: PathMetaHeader,
+    pub moves: usize,
+}
+
+// The number of the first `count` info fields that have peering set.
+fn peering_count(bytes: &[u8], count: usize) -> usize
+    requires { ⌜ (infoStart count ≤ length (now bytes)) × (count ≤ 3) ⌝ }
+    ensures { λ r. ⌜ (r ≡ spec.peerings (now (bytes .entry)) count) × (r ≤ count) ⌝ }
+{
+    let mut k: usize = 0;
+    let mut sum: usize = 0;
+    while k < count {
+        let flags = bytes[PathMetaHeader::LENGTH + k * InfoField::LENGTH];
+        sum += wide(flags / InfoField::PEERING_FLAG % 2);
+        k += 1;
+    }
+    sum
+}
+
+// Whether a path that was read can be moved: 13 for too many hop fields, 14 for peering that is not on both of two segments.
+fn state(bytes: &[u8], meta_header: PathMetaHeader) -> Answer
+    requires { ⌜ pathLength «meta_header» ≤ length (now bytes) ⌝ }
+    ensures { λ r. ⌜ r ≡ spec.stateOf (now (bytes .entry)) «meta_header» ⌝ }
+{
+    if 64 < meta_header.hop_fields_count() {
+        return Answer::Refused(PathError::TooManyHopFields);
+    }
+    let count = meta_header.info_fields_count();
+    let peering = peering_count(bytes, count);
+    if peering == 0 {
+        return Answer::Accepted;
+    }
+    if count == 2 {
+        if peering == 2 {
+            return Answer::Accepted;
+        }
+    }
+    Answer::Refused(PathError::PeeringNotOnBoth)
+}
+
+// Reading, 8 for every type but 1, then 13 and 14: where moves and walks begin.
+fn movable(path_type: u8, bytes: &[u8]) -> PathAnswer
+    ensures { λ r. ⌜ r ≡ spec.movableOf «path_type» (now (bytes .entry)) ⌝ }
+{
+    let read = DataplanePath::new(path_type).standard(bytes);
+    let answer = read.answer;
+    let path = read.path;
+    match answer {
+        Answer::Accepted => {
+            let found = state(bytes, path.meta_header);
+            match found {
+                Answer::Accepted => PathAnswer {
+                    answer: Answer::Accepted,
+                    path,
+                },
+                Answer::Refused(error) => PathAnswer::refused(error),
+            }
+        }
+        Answer::Refused(error) => PathAnswer::refused(error),
+    }
+}
+
+// The owner of the move from hop field `hop` inside a segment: the hop field whose code the accumulator takes in.
+fn owner_of(flags: u8, hop: usize) -> usize
+    requires { ⌜ hop < 256 ⌝ }
+    ensures { λ r. ⌜ (r ≡ spec.ownerOf flags hop) × (r ≤ hop + 1) ⌝ }
+{
+    if flags % 2 == 1 {
+        return hop;
+    }
+    hop + 1
+}
+
+// Whether peering spares this owner: the last hop field of the first segment, and the first of the second.
+fn is_spared(flags: u8, owner: usize, first_length: usize) -> bool
+    requires { ⌜ owner < 257 ⌝ }
+    ensures { λ r. ⌜ r ≡ spec.spared flags owner «first_length» ⌝ }
+{
+    if flags / InfoField::PEERING_FLAG % 2 == 1 {
+        if owner + 1 == first_length {
+            return true;
+        }
+        return owner == first_length;
+    }
+    false
+}
+
+// The 16-bit number at `at`, which is there.
+fn u16_at(bytes: &[u8], at: usize) -> u16
+    requires { ⌜ at + 2 ≤ length (now bytes) ⌝ }
+    ensures { λ r. ⌜ r ≡ bigEndian 2 (now (bytes .entry)) at ⌝ }
+{
+    match get_u16(bytes, at) {
+        Read16::Value(number) => number,
+        Read16::Truncated => 0,
+    }
+}
+
+impl Position {
+    // The pointers of a header.
+    fn of(meta_header: PathMetaHeader) -> Position
+        ensures { λ r. ⌜ r ≡ spec.positionOf «meta_header» ⌝ }
+    {
+        Position {
+            current_info_field: meta_header.current_info_field,
+            current_hop_field: meta_header.current_hop_field,
+        }
+    }
+
+    // The move from this position, which is the path's own and not its last.
+    fn moved(self, bytes: &[u8], meta_header: PathMetaHeader) -> Moved
+        requires { ⌜ spec.CanMove (now bytes) «meta_header» ⌝ }
+        requires { ⌜ self ≡ spec.positionOf «meta_header» ⌝ }
+        ensures { λ r. ⌜ r ≡ spec.moveFrom (now (bytes .entry)) «meta_header» self ⌝ }
+    {
+        let segment = wide(self.current_info_field);
+        let hop = wide(self.current_hop_field);
+        let next = meta_header.segment_of(hop + 1);
+        let position = Position {
+            current_info_field: next as u8,
+            current_hop_field: (hop + 1) as u8,
+        };
+        if next != segment {
+            return Moved {
+                position,
+                change: 0,
+            };
+        }
+        let flags = bytes[PathMetaHeader::LENGTH + segment * InfoField::LENGTH];
+        let owner = owner_of(flags, hop);
+        if is_spared(flags, owner, meta_header.segment_length(0)) {
+            return Moved {
+                position,
+                change: 0,
+            };
+        }
+        let owner_at = PathMetaHeader::LENGTH
+            + meta_header.info_fields_count() * InfoField::LENGTH
+            + owner * HopField::LENGTH;
+        Moved {
+            position,
+            change: u16_at(bytes, owner_at + 6),
+        }
+    }
+}
+
+// The header with its pointers at another position.
+fn at_position(meta_header: PathMetaHeader, position: Position) -> PathMetaHeader
+    ensures { λ r. ⌜ r ≡ spec.atPosition «meta_header» position ⌝ }
+{
+    let segment_lengths = meta_header.segment_lengths;
+    PathMetaHeader {
+        current_info_field: position.current_info_field,
+        current_hop_field: position.current_hop_field,
+        reserved: meta_header.reserved,
+        segment_lengths,
+    }
+}
+
+// Writes a move out of segment `segment` to the path's bytes: the pointers, and the two bytes of its accumulator.
+fn apply(bytes: &mut [u8], segment: usize, moved: Moved)
+    requires { ⌜ infoStart segment + 4 ≤ length (now bytes) ⌝ }
+    requires { ⌜ (moved .position .«current_info_field» < 4) × (moved .position .«current_hop_field» < 64) ⌝ }
+    ensures { λ _. ⌜ now (bytes .exit) ≡ spec.applied (now (bytes .entry)) segment moved ⌝ }
+{
+    let at = PathMetaHeader::LENGTH + segment * InfoField::LENGTH + 2;
+    let position = moved.position;
+    let accumulator = u16_at(bytes, at) ^ moved.change;
+    bytes[0] = position.current_info_field * 64 + position.current_hop_field;
+    put_u16(bytes, at, accumulator);
+}
+
+// One move of a path that can be moved; hands back the header that it leaves.
+fn step(bytes: &mut [u8], meta_header: PathMetaHeader) -> PathMetaHeader
+    requires { ⌜ spec.CanMove (now bytes) «meta_header» ⌝ }
+    ensures { λ r. ⌜ r ≡ spec.movedMeta (now (bytes .entry)) «meta_header» ⌝ }
+    ensures { λ _. ⌜ now (bytes .exit) ≡ spec.moveBytes (now (bytes .entry)) «meta_header» ⌝ }
+{
+    let position = Position::of(meta_header);
+    let moved = position.moved(bytes, meta_header);
+    apply(bytes, wide(meta_header.current_info_field), moved);
+    let there = moved.position;
+    at_position(meta_header, there)
+}
+
+// One move on lent bytes: the hop pointer gains 1, the info pointer names the new segment, the accumulator takes the owner's code in.
+pub fn single_move(path_type: u8, bytes: &mut [u8]) -> PathAnswer
+    ensures { λ r. ⌜ r ≡ spec.moveAnswer «path_type» (now (bytes .entry)) ⌝ }
+    ensures { λ _. ⌜ now (bytes .exit) ≡ spec.moved «path_type» (now (bytes .entry)) ⌝ }
+{
+    let read = movable(path_type, bytes);
+    let answer = read.answer;
+    let meta_header = read.path.meta_header;
+    match answer {
+        Answer::Accepted => {
+            if wide(meta_header.current_hop_field) + 1 < meta_header.hop_fields_count() {
+                let left = step(bytes, meta_header);
+                return PathAnswer {
+                    answer: Answer::Accepted,
+                    path: StandardPath { meta_header: left },
+                };
+            }
+            PathAnswer::refused(PathError::AtLastHopField)
+        }
+        Answer::Refused(error) => PathAnswer::refused(error),
+    }
+}
+
+// Moves until the last hop field or the limit.
+fn steps(bytes: &mut [u8], start: PathMetaHeader, limit: usize) -> Walked
+    requires { ⌜ spec.Movable (now bytes) start ⌝ }
+    ensures { λ r. ⌜ r .moves ≡ spec.walkMoves start limit ⌝ }
+    ensures { λ r. ⌜ r .«meta_header» ≡ spec.metaAfter (r .moves) (now (bytes .entry)) ⌝ }
+    ensures { λ r. ⌜ now (bytes .exit) ≡ spec.bytesAfter (r .moves) (now (bytes .entry)) ⌝ }
+{
+    let count = start.hop_fields_count();
+    let mut meta_header = start;
+    let mut hop = wide(start.current_hop_field);
+    let mut moves: usize = 0;
+    while moves < limit {
+        if count <= hop + 1 {
+            break;
+        }
+        meta_header = step(bytes, meta_header);
+        hop += 1;
+        moves += 1;
+    }
+    Walked { meta_header, moves }
+}
+
+// A walk on lent bytes: moves until the last hop field or the limit.
+pub fn walk(path_type: u8, bytes: &mut [u8], limit: usize) -> WalkAnswer
+    ensures { λ r. ⌜ r ≡ spec.walkAnswer «path_type» (now (bytes .entry)) limit ⌝ }
+    ensures { λ _. ⌜ now (bytes .exit) ≡ spec.walked «path_type» (now (bytes .entry)) limit ⌝ }
+{
+    let read = movable(path_type, bytes);
+    let answer = read.answer;
+    let meta_header = read.path.meta_header;
+    match answer {
+        Answer::Accepted => {
+            let walked = steps(bytes, meta_header, limit);
+            let moves = walked.moves;
+            let left = walked.meta_header;
+            WalkAnswer {
+                answer: Answer::Accepted,
+                path: StandardPath { meta_header: left },
+                moves,
+                arrived: wide(meta_header.current_hop_field) + moves + 1
+                    == meta_header.hop_fields_count(),
+            }
+        }
+        Answer::Refused(error) => {
+            let path = StandardPath::zero();
+            WalkAnswer {
+                answer: Answer::Refused(error),
+                path,
+                moves: 0,
+                arrived: false,
+            }
+        }
+    }
+}
