@@ -1,6 +1,6 @@
 -- Network numbers (the draft's DstISD, DstAS, SrcISD, SrcAS): 64 bits, ISD the highest 16, AS the other 48.
 use Prim.Native.Nat.{ℕ, _+_, _*_, _/_, _%_, _^_}
-use mathlib.Core.Bool.{Bool, true, false}
+use mathlib.Core.Bool.{Bool, true}
 use lib.Dec.{ltb, eqb}
 use Rattle.wire_encoding.specs.Choice.{pick, Answer, value, refused}
 use Rattle.address.specs.declared.ia.NewIsdAsn.{NewIsdAsn}

@@ -41,7 +41,7 @@ use Rattle.path.specs.declared.dataplane.PathAnswer.{PathAnswer}
 use Rattle.path.specs.declared.dataplane.Located.{Located}
 use Rattle.path.specs.Segment.{noSegment, segmentOfPath}
 use Rattle.path.proofs.SegmentLaws.{inside}
-use Rattle.path.specs.Standard.{zeroPath, pathRefused, complete, readPath}
+use Rattle.path.specs.Standard.{pathRefused, complete, readPath}
 use Rattle.path.specs.Dataplane.{
   unread,
   standardRead,

@@ -1,9 +1,9 @@
 -- The calls on a path of any type: a type byte beside the bytes. Reading comes first, then each call's own order.
-use Prim.Native.Nat.{ℕ, _+_, _*_, _%_, _≤_, _<_}
+use Prim.Native.Nat.{ℕ, _+_, _%_, _≤_, _<_}
 use mathlib.Core.Bool.{Bool}
 use mathlib.Core.List.{List}
-use lib.ListN.{length, getD, set, take, drop}
-use lib.IntN.{ℤ, pos, subℕ}
+use lib.ListN.{length, getD, set, take}
+use lib.IntN.{pos, subℕ}
 use lib.Dec.{ltb, leb, eqb}
 use Rattle.wire_encoding.specs.Choice.{pick}
 use Rattle.wire_encoding.specs.Bits.{withBit}
@@ -11,7 +11,6 @@ use Rattle.wire_encoding.specs.BigEndian.{part}
 use Rattle.path_header.specs.MetaHeader.{
   pathLength,
   infoFieldsCount,
-  hopFieldsCount,
   segmentOf,
   infoFieldOffset,
   hopFieldOffset,

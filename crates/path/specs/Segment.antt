@@ -12,7 +12,6 @@ use Rattle.path_header.specs.declared.error.PathError.{PathError}
 use Rattle.path_header.specs.declared.error.PathError.the-variants.{NoSuchField}
 use Rattle.path.specs.Standard.{zeroPath}
 use Rattle.path.specs.declared.standard.StandardPath.{StandardPath}
-use Rattle.path.specs.declared.standard.Part.{Part}
 use Rattle.path.specs.declared.standard.segment.Segment.{Segment}
 
 -- info field k of a path's bytes, and hop field j

@@ -7,7 +7,7 @@ use native.Mathlib.Nat.{add-zero}
 use native.Mathlib.Omega.{arith}
 use lib.ListN.{length, getD}
 use borrow.Author.Tests.{eq-eqb}
-use Rattle.wire_encoding.specs.BigEndian.{bigEndian, part}
+use Rattle.wire_encoding.specs.BigEndian.{part}
 use Rattle.wire_encoding.proofs.Parts.{length-part, getD-part, part-part}
 use Rattle.wire_encoding.proofs.Numbers.{read-part}
 use Rattle.path_header.specs.Fields.{infoFieldAt, newInfoField, hopFieldAt, newHopField}

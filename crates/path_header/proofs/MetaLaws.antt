@@ -1,11 +1,11 @@
 -- Laws of a meta header: its counts, its bits, and that reading and writing one undo each other.
 -- Assumes nothing.
-use Prim.Native.Nat.{ℕ, zero, suc, _+_, _*_, _/_, _%_, _^_, _<_, _≤_}
-use mathlib.Core.Path.{_≡_, refl, sym, ap, _∙_}
+use Prim.Native.Nat.{ℕ, _+_, _*_, _/_, _%_, _^_, _<_, _≤_}
+use mathlib.Core.Path.{_≡_, refl, sym, _∙_}
 use mathlib.Core.Bool.{Bool, true, false}
 use mathlib.Core.List.{List, [], _∷_}
 use native.Mathlib.Omega.{arith}
-use lib.Dec.{eqb, ltb}
+use lib.Dec.{eqb}
 use lib.ListN.{length, getD}
 use borrow.Author.Tests.{eq-eqb, ne-eqb, eqb-false, ltb-true}
 use Rattle.wire_encoding.specs.Choice.{pick, value, refused}
@@ -19,7 +19,6 @@ use Rattle.path_header.specs.MetaHeader.{
   segmentLength,
   infoFieldsCount,
   hopFieldsCount,
-  fits,
   fieldsFit,
   wordOf,
   asWord,

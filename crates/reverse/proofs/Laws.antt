@@ -9,7 +9,7 @@ use native.Mathlib.Nat.{suc-mul, mod-eq-of-lt}
 use native.Mathlib.Numerals.{sub-one}
 use native.Mathlib.Omega.{arith}
 use lib.Dec.{eqb}
-use lib.ListN.{length, take, drop, getD, set, length-append, length-drop}
+use lib.ListN.{length, take, drop, getD, set, length-append, length-drop, length-set}
 use lib.Seq.{sets, drop-drop, length-sets}
 use borrow.Author.Tests.{lt-ltb, eq-eqb, ne-eqb}
 use Rattle.wire_encoding.specs.Choice.{pick}
@@ -74,6 +74,16 @@ abbrev pub stores : List ℕ → ℕ → List ℕ → ℕ → ℕ → List ℕ
 stores src from dst to zero = dst
 stores src from dst to (suc n) = set (stores src from dst to n) (to + suc n) (getD src (from + suc n) 0)
 
+length-stores : (src : List ℕ) (from : ℕ) (dst : List ℕ) (to n : ℕ) → length (stores src from dst to n) ≡ length dst
+length-stores src from dst to zero = refl
+length-stores src from dst to (suc n) = length-set (stores src from dst to n) _ _ ∙ length-stores src from dst to n
+
+-- the next store has its place
+pub inside : (src : List ℕ) (from : ℕ) (dst : List ℕ) (to first n size : ℕ) → to + size ≤ length dst → suc n < size
+    → to + suc n < length (stores src from (set dst to first) to n)
+inside src from dst to first n size h k =
+    omega (arith, length-stores src from (set dst to first) to n, length-set dst to first)
+
 -- after the store of byte 0 they are one write
 pub stored : (src : List ℕ) (from : ℕ) (dst : List ℕ) (to first n : ℕ) → from + suc n ≤ length src
     → stores src from (set dst to first) to n ≡ sets dst to (first ∷ part (suc from) n src)
@@ -132,14 +142,14 @@ module _ (f : List ℕ → List ℕ) (sized : Sized f) (k : ℕ) where
         let more : suc n * k ≡ n * k + k = suc-mul n k in
         let last : List ℕ = f (part (n * k) k (drop from src)) in
         let rest : List ℕ = reversedRecords f k n (drop from src) in
-        let size : length last ≡ k = length-record n (drop from src) (simp length-drop (omega (arith, i .in-src))) in
+        let size : length last ≡ k = length-record n (drop from src) (simp length-drop (omega arith)) in
         let kept : length dst′ ≡ length dst = ap length e ∙ simp length-sets in
         let now : dst′ ≡ sets dst to last =
         simp sub-one at e ∙ ap (λ (bytes : List ℕ). sets dst to (f (take k bytes))) (sym (drop-drop (n * k) from src)) in
         simp sub-one (record {
           writes = ap (λ (d : List ℕ). sets d (to + k) rest) now ∙ written-after last rest dst to k size ∙ i .writes;
-          in-src = omega (arith, i .in-src);
-          in-dst = omega (arith, i .in-dst);
+          in-src = omega arith;
+          in-dst = omega arith;
           len = kept ∙ i .len;
         })
 
@@ -163,13 +173,13 @@ module _ (m : PathMetaHeader) (bytes : List ℕ) where
     length-infos : length infos ≡ infoFieldsCount m * 8
     unfolding pathLength
     length-infos =
-        length-reversedRecords flipped sized-flipped 8 (infoFieldsCount m) (drop 4 bytes) (simp length-drop (omega (arith, whole)))
+        length-reversedRecords flipped sized-flipped 8 (infoFieldsCount m) (drop 4 bytes) (simp length-drop (omega arith))
 
     length-hops : length hops ≡ hopFieldsCount m * 12
     unfolding pathLength
     length-hops =
         length-reversedRecords same sized-same 12 (hopFieldsCount m) (drop (4 + infoFieldsCount m * 8) bytes)
-        (simp length-drop (omega (arith, whole)))
+        (simp length-drop (omega arith))
 
     pub length-reversedPath : length (reversedPath m bytes) ≡ pathLength m
     unfolding reversedPath pathLength
@@ -181,7 +191,7 @@ module _ (m : PathMetaHeader) (bytes : List ℕ) where
   unfolding reversedPath pathLength
   all-written dst r e₁ e₂ e₃ =
       let size : length header ≡ 4 = length-bytesOf 4 (wordOf (reversedMeta m)) in
-      let first = e₁ ∙ placed-is dst 0 header 4 size (omega (arith, r .exact)) in
+      let first = e₁ ∙ placed-is dst 0 header 4 size (omega arith) in
       e₃
       ∙ ap (λ (d : List ℕ). sets d (4 + infoFieldsCount m * 8) hops) (e₂ ∙ ap (λ (d : List ℕ). sets d 4 infos) first)
       ∙ written-after infos hops (sets dst 0 header) 4 (infoFieldsCount m * 8) (length-infos (r .whole))
@@ -217,6 +227,14 @@ fits-read : (word : ℕ) → fieldsFit (reversedMeta (metaOf word)) ≡ true
 unfolding reversedMeta metaOf nthField
 fits-read word = fits-reversed _ _ _ (omega arith) (omega arith) (omega arith)
 
+-- so a path that was read can be reversed into a destination of its length
+pub reversible : {bytes : List ℕ} {m : PathMetaHeader} {n : ℕ} → Readable bytes m → n ≡ pathLength m → Reversible m (length bytes) n
+reversible {bytes} r e = record {
+  fits = ap (λ (h : PathMetaHeader). fieldsFit (reversedMeta h)) (r .word) ∙ fits-read (bigEndian 4 bytes 0);
+  whole = r .whole;
+  exact = e;
+}
+
 -- the first four bytes of what is written spell the reversed header
 module _ (m : PathMetaHeader) (bytes : List ℕ) (fits : fieldsFit (reversedMeta m) ≡ true) where
   pub word-reversedPath : bigEndian 4 (reversedPath m bytes) 0 ≡ wordOf (reversedMeta m)
@@ -227,15 +245,9 @@ module _ (m : PathMetaHeader) (bytes : List ℕ) (fits : fieldsFit (reversedMeta
 
   pub meta-reversedPath : metaOf (bigEndian 4 (reversedPath m bytes) 0) ≡ reversedMeta m
   unfolding reversedMeta atStart
-  meta-reversedPath = ap metaOf word-reversedPath ∙ meta-back (reversedMeta m) (by-row (λ lengths. length lengths ≡ 3) _ _ _ refl refl refl refl) (fitting (reversedMeta m) fits)
-
--- so a path that was read can be reversed into a destination of its length
-pub reversible : {bytes : List ℕ} {m : PathMetaHeader} {n : ℕ} → Readable bytes m → n ≡ pathLength m → Reversible m (length bytes) n
-reversible {bytes} r e = record {
-  fits = ap (λ (h : PathMetaHeader). fieldsFit (reversedMeta h)) (r .word) ∙ fits-read (bigEndian 4 bytes 0);
-  whole = r .whole;
-  exact = e;
-}
+  meta-reversedPath =
+      let three = by-row (λ lengths. length lengths ≡ 3) _ _ _ refl refl refl refl in
+      ap metaOf word-reversedPath ∙ meta-back (reversedMeta m) three (fitting (reversedMeta m) fits)
 
 -- THE ANSWERS
 

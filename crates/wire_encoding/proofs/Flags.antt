@@ -2,8 +2,8 @@
 -- Assumes nothing.
 use mathlib.Core.Path.{_≡_, refl, sym, ap, ap₂, _∙_}
 use mathlib.Core.Bool.{Bool, true, false, not}
-use Prim.Native.Nat.{ℕ, zero, suc, _+_, _-_, _*_, _/_, _%_, _^_, _<_, _≤_, min, max}
-use native.Mathlib.Nat.{add-mul-div-right, add-mul-mod-self-right, add-mul, one-mul, zero-mul, add-zero, mod-lt, mod-eq-of-lt, min-zero}
+use Prim.Native.Nat.{ℕ, zero, suc, _+_, _-_, _*_, _/_, _%_, _^_, _<_, min, max}
+use native.Mathlib.Nat.{add-mul-div-right, add-mul-mod-self-right, add-mul, one-mul, add-zero, mod-lt, mod-eq-of-lt, min-zero}
 use native.Mathlib.Omega.{arith}
 use lib.Bits.{
   bitAnd,
@@ -22,7 +22,7 @@ use lib.Bits.{
 }
 use borrow.Author.Tests.{eq-eqb, ne-eqb}
 use lib.Dec.{lit<}
-use lib.Pow.{split, pow-pos, shr-lt}
+use lib.Pow.{split, pow-pos}
 use Rattle.wire_encoding.specs.Choice.{pick}
 use Rattle.wire_encoding.specs.Bits.{bitOf, withBit}
 

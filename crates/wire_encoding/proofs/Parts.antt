@@ -1,12 +1,12 @@
 -- Parts of a list of bytes, and runs of bytes written over a part (`sets`).
 -- Assumes nothing.
-use mathlib.Core.Path.{_≡_, refl, sym, ap, _∙_, subst}
-use mathlib.Core.List.{List, [], _∷_, _++_, append-nil, append-assoc}
+use mathlib.Core.Path.{_≡_, refl, sym, ap, _∙_}
+use mathlib.Core.List.{List, [], _∷_, _++_, append-nil}
 use Prim.Native.Nat.{ℕ, zero, suc, _+_, _≤_, _<_}
 use native.Mathlib.Nat.{add-assoc, add-zero, add-suc, suc-add}
 use native.Mathlib.Omega.{arith}
 use lib.ListN.{length, take, drop, getD, set, length-take, length-drop, drop-of-length-le, take-append-drop}
-use lib.Seq.{sets, sets-eq, set-comm, drop-cons, drop-drop, take-suc, getD-drop, getD-take, take-add, ext-getD}
+use lib.Seq.{sets, sets-eq, set-comm, drop-cons, take-suc, getD-drop, getD-take, take-add, ext-getD}
 use mir.Val.{Fits}
 use mir.Syntax.{w8}
 use Rattle.wire_encoding.specs.BigEndian.{part}

@@ -1,13 +1,21 @@
 -- `reverse_info_field` meets its contract: the eight bytes are loaded before any is stored, and the flags' xor with 1 flips bit 0.
 use native.Mathlib.Omega.{arith}
-use lib.ListN.{getD, length-set}
+use Prim.Native.Nat.{ℕ, suc, _+_, _<_}
+use lib.Dec.{lit<}
+use lib.ListN.{length, getD, set, length-set}
 use Rattle.wire_encoding.proofs.Parts.{part-cons}
 use Rattle.wire_encoding.proofs.Flags.{flip-bit}
 use Rattle.reverse.specs.Reverse.{flipped}
-use Rattle.reverse.proofs.Laws.{stored}
+use Rattle.reverse.proofs.Laws.{stores, inside, stored}
 use borrow.Author.Needs.{needs}
 use Rattle.reverse.proofs.reverse_info_field.Statement.{statement}
 use Rattle.reverse.proofs.reverse_info_field.Tie as tie
+
+-- each store after the first has its place, whatever the first store was
+next : (c : tie.After-shared-slice-known8) (first n : ℕ) → suc n < 8
+    → let a = c .before .before .before .before .before .before .before .before .args in
+    a .to + suc n < length (stores (a .src .now) (a .from) (set (a .dst .now) (a .to) first) (a .to) n)
+next c first n h = inside _ _ (c .before .before .before .before .before .before .before .before .args .dst .now) _ first n 8 (c .before .before .before .before .before .before .before .before .pre .1) h
 
 shared-slice-read-b0 : tie.Need-shared-slice-read-b0
 shared-slice-read-b0 c = search needs
@@ -61,43 +69,43 @@ add-dst : tie.Need-add-dst
 add-dst c = search needs
 
 slice-write-dst-2 : tie.Need-slice-write-dst-2
-slice-write-dst-2 c = simp length-set (omega arith)
+slice-write-dst-2 c = next c _ 0 (lit< tt)
 
 add-dst-2 : tie.Need-add-dst-2
 add-dst-2 c = search needs
 
 slice-write-dst-3 : tie.Need-slice-write-dst-3
-slice-write-dst-3 c = simp length-set (omega arith)
+slice-write-dst-3 c = next c _ 1 (lit< tt)
 
 add-dst-3 : tie.Need-add-dst-3
 add-dst-3 c = search needs
 
 slice-write-dst-4 : tie.Need-slice-write-dst-4
-slice-write-dst-4 c = simp length-set (omega arith)
+slice-write-dst-4 c = next c _ 2 (lit< tt)
 
 add-dst-4 : tie.Need-add-dst-4
 add-dst-4 c = search needs
 
 slice-write-dst-5 : tie.Need-slice-write-dst-5
-slice-write-dst-5 c = simp length-set (omega arith)
+slice-write-dst-5 c = next c _ 3 (lit< tt)
 
 add-dst-5 : tie.Need-add-dst-5
 add-dst-5 c = search needs
 
 slice-write-dst-6 : tie.Need-slice-write-dst-6
-slice-write-dst-6 c = simp length-set (omega arith)
+slice-write-dst-6 c = next c _ 4 (lit< tt)
 
 add-dst-6 : tie.Need-add-dst-6
 add-dst-6 c = search needs
 
 slice-write-dst-7 : tie.Need-slice-write-dst-7
-slice-write-dst-7 c = simp length-set (omega arith)
+slice-write-dst-7 c = next c _ 5 (lit< tt)
 
 add-dst-7 : tie.Need-add-dst-7
 add-dst-7 c = search needs
 
 slice-write-dst-8 : tie.Need-slice-write-dst-8
-slice-write-dst-8 c = simp length-set (omega arith)
+slice-write-dst-8 c = next c _ 6 (lit< tt)
 
 same-length : tie.Need-same-length
 same-length c = simp length-set

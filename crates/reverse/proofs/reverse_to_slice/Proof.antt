@@ -1,5 +1,6 @@
 -- `reverse_to_slice` meets its contract: by the type, then by what reading finds, then by the size; a path that was read can be reversed.
-use mathlib.Core.Path.{sym, _∙_}
+use mathlib.Core.Path.{_∙_}
+use native.Mathlib.Omega.{arith}
 use Rattle.path.proofs.Reading.{readable}
 use Rattle.reverse.proofs.Laws.{reversible, as-copied, not-read, other-size, reversed-whole}
 use borrow.Author.Needs.{needs}
@@ -35,8 +36,7 @@ reverse-fields-requires : tie.Need-reverse-fields-requires
 reverse-fields-requires c κs =
     let read = c .before .before .before .before .before .before .decode in
     let accepted = rw (read .ensures) at (c .before .before .before .enum-told .given .1) in
-    let size = c .before .if2 .taken ∙ c .before .before .encoded-path-length .ensures .0 in
-    reversible (rw (← read .ensures) at (readable (c .before .before .before .before .before .before .before .before .before .before .before .args .bytes .now) accepted)) size
+    reversible (rw (← read .ensures) at (readable (c .before .before .before .before .before .before .before .before .before .before .before .args .bytes .now) accepted)) (omega arith)
 
 to-reversed-requires : tie.Need-to-reversed-requires
 to-reversed-requires c κs = search needs
@@ -48,9 +48,8 @@ returns-2 : tie.Need-returns-2
 returns-2 c =
     let a = c .before .before .before .before .before .before .before .before .before .before .before .before .before .before .before .args in
     let read = c .before .before .before .before .before .before .before .before .before .before .decode in
-    let size = c .before .before .before .before .before .if2 .taken ∙ c .before .before .before .before .before .before .encoded-path-length .ensures .0 in
     rw (c .before .before .before .before .before .before .before .before .before .before .before .if1 .left, c .to-reversed .ensures)
-    (reversed-whole (a .bytes .now) (a .dst .now) (read .ensures) (c .before .before .before .before .before .before .before .enum-told .given .1) size (c .before .before .before .reverse-fields .ensures))
+    (reversed-whole (a .bytes .now) (a .dst .now) (read .ensures) (c .before .before .before .before .before .before .before .enum-told .given .1) (omega arith) (c .before .before .before .reverse-fields .ensures))
 
 refused-requires : tie.Need-refused-requires
 refused-requires c κs = search needs
@@ -65,9 +64,8 @@ returns-3 : tie.Need-returns-3
 returns-3 c =
     let a = c .before .before .before .before .before .before .before .before .before .before .before .args in
     let read = c .before .before .before .before .before .before .decode in
-    let size = c .before .before .encoded-path-length .ensures .0 in
     rw (c .before .before .before .before .before .before .before .if1 .left, c .refused .ensures)
-    (other-size (a .bytes .now) (a .dst .now) (read .ensures) (c .before .before .before .enum-told .given .1) (λ e. c .before .if2 .left (e ∙ sym size)))
+    (other-size (a .bytes .now) (a .dst .now) (read .ensures) (c .before .before .before .enum-told .given .1) (λ e. omega arith))
 
 returns-4 : tie.Need-returns-4
 returns-4 c =

@@ -1,6 +1,4 @@
 -- `with_bit_0` meets its contract: the laws of the two masks, at bit 0 of 8.
-use mathlib.Core.Path.{_≡_}
-use mathlib.Core.Bool.{true, false}
 use native.Mathlib.Omega.{arith}
 use Rattle.wire_encoding.proofs.Flags.{set-bit, clear-bit}
 use Rattle.wire_encoding.proofs.bits.with_bit_0.Statement.{statement}

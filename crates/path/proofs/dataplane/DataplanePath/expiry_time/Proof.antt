@@ -1,5 +1,4 @@
 -- `expiry_time` meets its contract: the order of calls on standard paths, then the least over the segments.
-use mathlib.Core.Path.{ap, _∙_}
 use native.Mathlib.Omega.{arith}
 use Rattle.path.specs.Dataplane as spec
 use Rattle.path.proofs.Reading.{goes-on}

@@ -1,8 +1,6 @@
 -- `info_field` meets its contract: the part lies among the bytes.
-use mathlib.Core.Path.{ap, _∙_}
 use native.Mathlib.Omega.{arith}
 use native.Mathlib.Nat.{add-sub-cancel-left}
-use Rattle.path.specs.Dataplane as spec
 use Rattle.path.proofs.Reading.{info-inside}
 use borrow.Author.Needs.{needs}
 use Rattle.path.proofs.dataplane.DataplanePath.info_field.Statement.{statement}

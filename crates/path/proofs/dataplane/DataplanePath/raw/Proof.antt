@@ -1,10 +1,7 @@
 -- `raw` meets its contract: a path is never longer than its bytes.
-use mathlib.Core.Path.{_≡_, ap, sym, _∙_}
-use Prim.Native.Nat.{_≤_}
-use native.Mathlib.Omega.{arith}
+use mathlib.Core.Path.{ap, sym}
 use lib.ListN.{length, take}
 use lib.Seq.{length-take-le}
-use Rattle.path.specs.Dataplane as spec
 use Rattle.path.proofs.Reading.{length-inside}
 use borrow.Author.Needs.{needs}
 use Rattle.path.proofs.dataplane.DataplanePath.raw.Statement.{statement}

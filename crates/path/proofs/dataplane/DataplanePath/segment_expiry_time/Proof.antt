@@ -1,5 +1,4 @@
 -- `segment_expiry_time` meets its contract: the order of calls on standard paths, then the segment.
-use mathlib.Core.Path.{_≡_}
 use Prim.Native.Nat.{_<_, _≤_}
 use native.Mathlib.Omega.{arith}
 use borrow.Author.Tests.{lt-ltb, le-ltb}

@@ -1,8 +1,6 @@
 -- `segment_hop_fields` meets its contract: the part lies among the bytes.
-use mathlib.Core.Path.{ap, _∙_}
 use native.Mathlib.Omega.{arith}
 use native.Mathlib.Nat.{add-sub-cancel-left}
-use Rattle.path.specs.Dataplane as spec
 use Rattle.path.proofs.Reading.{segment-inside}
 use borrow.Author.Needs.{needs}
 use Rattle.path.proofs.dataplane.DataplanePath.segment_hop_fields.Statement.{statement}

@@ -1,5 +1,4 @@
 -- `StandardPath::decode` meets its contract: the meta header as it was read, then the length.
-use mathlib.Core.Path.{_≡_}
 use Prim.Native.Nat.{_≤_, _<_}
 use native.Mathlib.Omega.{arith}
 use borrow.Author.Tests.{le-leb, lt-leb}

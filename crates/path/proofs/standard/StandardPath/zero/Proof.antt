@@ -1,5 +1,4 @@
 -- `StandardPath::zero` meets its contract: the meta header of the word 0.
-use mathlib.Core.Path.{ap}
 use Rattle.path.specs.Standard as spec
 use borrow.Author.Needs.{needs}
 use Rattle.path.proofs.standard.StandardPath.zero.Statement.{statement}

@@ -1,6 +1,5 @@
 -- `computed_info_field_index` meets its contract: the segment of the hop pointer.
 use mathlib.Core.Path.{ap, _∙_}
-use native.Mathlib.Omega.{arith}
 use Rattle.path_header.specs.MetaHeader as spec
 use borrow.Author.Needs.{needs}
 use Rattle.path_header.proofs.meta_header.PathMetaHeader.computed_info_field_index.Statement.{

@@ -1,8 +1,4 @@
 -- `encode_to` meets its contract: what `as_u32` answers, then the size.
-use mathlib.Core.Path.{_≡_, sym, ap, _∙_}
-use mathlib.Core.List.{List}
-use Rattle.wire_encoding.specs.BigEndian.{bytesOf, placed}
-use Rattle.path_header.specs.MetaHeader as spec
 use Rattle.path_header.proofs.MetaLaws.{word-is, word-wide, encoded-done, encoded-size, encoded-wide}
 use borrow.Author.Needs.{needs}
 use Rattle.path_header.proofs.meta_header.PathMetaHeader.encode_to.Statement.{statement}

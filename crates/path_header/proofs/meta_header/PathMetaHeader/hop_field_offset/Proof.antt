@@ -1,7 +1,6 @@
 -- `hop_field_offset` meets its contract: the test on N.
 use native.Mathlib.Omega.{arith}
 use borrow.Author.Tests.{lt-ltb, le-ltb}
-use mathlib.Core.Path.{_≡_}
 use Prim.Native.Nat.{_<_, _≤_}
 use Rattle.path_header.specs.MetaHeader as spec
 use borrow.Author.Needs.{needs}

@@ -1,5 +1,4 @@
 -- `hop_valid` meets its contract: the pointer is under N, and its segment is the one named.
-use mathlib.Core.Path.{_≡_}
 use Prim.Native.Nat.{_<_, _≤_}
 use native.Mathlib.Omega.{arith}
 use borrow.Author.Tests.{lt-ltb, le-ltb}

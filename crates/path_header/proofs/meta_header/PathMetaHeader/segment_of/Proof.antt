@@ -1,5 +1,4 @@
 -- `segment_of` meets its contract: the index against the ends of the first two segments.
-use mathlib.Core.Path.{_≡_}
 use Prim.Native.Nat.{_+_, _<_, _≤_}
 use native.Mathlib.Omega.{arith}
 use borrow.Author.Tests.{lt-ltb, le-ltb}

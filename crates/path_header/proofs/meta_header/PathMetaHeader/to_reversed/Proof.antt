@@ -1,5 +1,4 @@
 -- `to_reversed` meets its contract: the tests in their order.
-use mathlib.Core.Path.{_∙_}
 use borrow.Author.Tests.{eq-eqb, ne-eqb}
 use Rattle.path_header.specs.MetaHeader as spec
 use borrow.Author.Needs.{needs}
