@@ -1,7 +1,8 @@
 // Executes the calls on standard input, one to a line, and prints each line, then ` => ` and its answer.
 // An empty line and one that begins with `#` are copied. The comment of a call's function says its words.
 mod fields;
-mod headers;
+mod meta_headers;
+mod packets;
 mod paths;
 mod print;
 mod travel;
@@ -10,6 +11,8 @@ mod words;
 
 use libc::STDIN_FILENO;
 use libc::STDOUT_FILENO;
+ghost use Prim.Native.Nat.{_≤_};
+ghost use lib.ListN.{length};
 
 // Whether a line is a call: it is not empty, and no comment.
 fn is_call(line: &[u8]) -> bool {
@@ -24,10 +27,13 @@ fn answer(line: &[u8]) {
     if paths::answer(line) {
         return;
     }
+    if packets::answer(line) {
+        return;
+    }
     if travel::answer(line) {
         return;
     }
-    if headers::answer(line) {
+    if meta_headers::answer(line) {
         return;
     }
     if fields::answer(line) {
@@ -59,8 +65,60 @@ fn execute_all(text: &[u8]) {
     }
 }
 
+// Where the last line of a text ends, its newline included; the text's end where it has no newline.
+fn last_line_end(text: &[u8]) -> usize
+    ensures { λ r. ⌜ r ≤ length (now (text .entry)) ⌝ }
+{
+    let mut end = text.len();
+    while 0 < end {
+        if text[end - 1] == b'\n' {
+            return end;
+        }
+        end -= 1;
+    }
+    text.len()
+}
+
+// Moves what lies from `start` to `end` to the front of a text; how many bytes that is.
+fn keep_rest(text: &mut [u8], start: usize, end: usize) -> usize
+    requires { ⌜ (start ≤ end) × (end ≤ length (now text)) ⌝ }
+    ensures { λ r. ⌜ r ≤ end ⌝ }
+{
+    let rest = end - start;
+    let mut i: usize = 0;
+    while i < rest {
+        text[i] = text[start + i];
+        i += 1;
+    }
+    rest
+}
+
+// Reads on after the `held` bytes of a line that has begun; how many bytes there are then.
+fn read_on(input: &mut [u8], held: usize) -> usize
+    requires { ⌜ held ≤ length (now input) ⌝ }
+    ensures { λ r. ⌜ r ≤ length (now (input .entry)) ⌝ }
+{
+    let got = io::read_full(STDIN_FILENO, &mut input[held..]);
+    held + got
+}
+
+// Executes the whole lines of what was read, and keeps the beginning of a line after them; how many bytes that is.
+fn execute_lines(input: &mut [u8], filled: usize) -> usize
+    requires { ⌜ filled ≤ length (now input) ⌝ }
+    ensures { λ r. ⌜ r ≤ filled ⌝ }
+{
+    let end = last_line_end(&input[..filled]);
+    execute_all(&input[..end]);
+    keep_rest(input, end, filled)
+}
+
 fn main() {
     let mut input = io::large_buffer();
-    let length = io::read_full(STDIN_FILENO, &mut input);
-    execute_all(&input[..length]);
+    let mut held: usize = 0;
+    let mut blocks: usize = 0;
+    while blocks < 16 {
+        let filled = read_on(&mut input, held);
+        held = execute_lines(&mut input, filled);
+        blocks += 1;
+    }
 }

@@ -1,5 +1,5 @@
 // Calls on paths as bytes: word 1 is the type, word 2 the bytes.
-use crate::headers;
+use crate::meta_headers;
 use crate::print;
 use crate::words;
 use path::dataplane::DataplanePath;
@@ -22,7 +22,7 @@ fn read(line: &[u8]) {
     let path = read.path;
     print::decoded(answer);
     print::number(read.length as u64);
-    headers::record(path.meta_header);
+    meta_headers::record(path.meta_header);
 }
 
 // A part by its start and its length.

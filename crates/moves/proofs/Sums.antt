@@ -56,7 +56,7 @@ bytes-written l at n old =
     let high = n / 256 % 256 in
     bytes-set (set l at high) (suc at) (n % 256) (bytes-set l at high old (omega arith)) (omega arith)
 
-bytes-moved : (bytes : List ℕ) (m : PathMetaHeader) → CanMove bytes m → Bytes bytes → Bytes (moveBytes bytes m)
+pub bytes-moved : (bytes : List ℕ) (m : PathMetaHeader) → CanMove bytes m → Bytes bytes → Bytes (moveBytes bytes m)
 unfolding moveBytes applied
 bytes-moved bytes m c old =
     let new = moveFrom bytes m (positionOf m) .position in

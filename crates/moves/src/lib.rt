@@ -7,14 +7,12 @@ use path_header::error::PathError;
 use path_header::fields::HopField;
 use path_header::fields::InfoField;
 use path_header::meta_header::PathMetaHeader;
-use wire_encoding::read::Read16;
-use wire_encoding::read::get_u16;
+use wire_encoding::read::u16_or_zero;
 use wire_encoding::read::wide;
 use wire_encoding::write::put_u16;
 ghost use mathlib.Core.Path.{_≡_};
 ghost use Prim.Native.Nat.{_+_, _≤_, _<_};
 ghost use lib.ListN.{length};
-ghost use Rattle.wire_encoding.specs.BigEndian.{bigEndian};
 ghost use Rattle.path_header.specs.MetaHeader.{pathLength};
 ghost use Rattle.path.specs.Segment.{infoStart};
 ghost use Rattle.moves.specs.Moves as spec;
@@ -128,17 +126,6 @@ fn is_spared(flags: u8, owner: usize, first_length: usize) -> bool
     false
 }
 
-// The 16-bit number at `at`, which is there.
-fn u16_at(bytes: &[u8], at: usize) -> u16
-    requires { ⌜ at + 2 ≤ length (now bytes) ⌝ }
-    ensures { λ r. ⌜ r ≡ bigEndian 2 (now (bytes .entry)) at ⌝ }
-{
-    match get_u16(bytes, at) {
-        Read16::Value(number) => number,
-        Read16::Truncated => 0,
-    }
-}
-
 impl Position {
     // The pointers of a header.
     fn of(meta_header: PathMetaHeader) -> Position
@@ -182,7 +169,7 @@ impl Position {
             + owner * HopField::LENGTH;
         Moved {
             position,
-            change: u16_at(bytes, owner_at + 6),
+            change: u16_or_zero(bytes, owner_at + 6),
         }
     }
 }
@@ -208,7 +195,7 @@ fn apply(bytes: &mut [u8], segment: usize, moved: Moved)
 {
     let at = PathMetaHeader::LENGTH + segment * InfoField::LENGTH + 2;
     let position = moved.position;
-    let accumulator = u16_at(bytes, at) ^ moved.change;
+    let accumulator = u16_or_zero(bytes, at) ^ moved.change;
     bytes[0] = position.current_info_field * 64 + position.current_hop_field;
     put_u16(bytes, at, accumulator);
 }

@@ -55,3 +55,12 @@ decodedNumber (decoded.Refused error) = decodeNumber error
 abbrev pub answerNumber : Answer → ℕ
 answerNumber answer.Accepted = 0
 answerNumber (answer.Refused error) = pathNumber error
+
+-- 2 and 3 come with their value; it is zero for every other answer
+abbrev pub decodedValue : Decoded → ℕ
+decodedValue decoded.Accepted = 0
+decodedValue (decoded.Refused error) = decodeValue error
+
+abbrev pub answerValue : Answer → ℕ
+answerValue answer.Accepted = 0
+answerValue (answer.Refused error) = pathValue error

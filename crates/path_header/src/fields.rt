@@ -3,15 +3,11 @@ use crate::error::Answer;
 use crate::error::PathError;
 use wire_encoding::bits::with_bit_0;
 use wire_encoding::bits::with_bit_1;
-use wire_encoding::read::Read16;
-use wire_encoding::read::Read32;
-use wire_encoding::read::get_u16;
-use wire_encoding::read::get_u32;
+use wire_encoding::read::u16_or_zero;
+use wire_encoding::read::u32_or_zero;
 ghost use mathlib.Core.Path.{_≡_};
 ghost use Prim.Native.Nat.{_+_, _≤_};
-ghost use lib.ListN.{length};
 ghost use Rattle.wire_encoding.specs.Bits.{bitOf};
-ghost use Rattle.wire_encoding.specs.BigEndian.{bigEndian};
 ghost use Rattle.path_header.specs.Fields as spec;
 
 // The head of a segment.
@@ -49,28 +45,6 @@ pub enum Interface {
     Id(u16),
 }
 
-// The 16-bit number at `at`, which is there.
-fn u16_at(bytes: &[u8], at: usize) -> u16
-    requires { ⌜ at + 2 ≤ length (now bytes) ⌝ }
-    ensures { λ r. ⌜ r ≡ bigEndian 2 (now (bytes .entry)) at ⌝ }
-{
-    match get_u16(bytes, at) {
-        Read16::Value(number) => number,
-        Read16::Truncated => 0,
-    }
-}
-
-// The 32-bit number at `at`, which is there.
-fn u32_at(bytes: &[u8], at: usize) -> u32
-    requires { ⌜ at + 4 ≤ length (now bytes) ⌝ }
-    ensures { λ r. ⌜ r ≡ bigEndian 4 (now (bytes .entry)) at ⌝ }
-{
-    match get_u32(bytes, at) {
-        Read32::Value(number) => number,
-        Read32::Truncated => 0,
-    }
-}
-
 impl InfoField {
     pub const LENGTH: usize = 8;
 
@@ -88,8 +62,8 @@ impl InfoField {
                 field: InfoField {
                     flags: part[0],
                     reserved: part[1],
-                    accumulator: u16_at(part, 2),
-                    timestamp: u32_at(part, 4),
+                    accumulator: u16_or_zero(part, 2),
+                    timestamp: u32_or_zero(part, 4),
                 },
             };
         }
@@ -149,8 +123,8 @@ impl HopField {
                 field: HopField {
                     flags: part[0],
                     exp_time: part[1],
-                    cons_ingress: u16_at(part, 2),
-                    cons_egress: u16_at(part, 4),
+                    cons_ingress: u16_or_zero(part, 2),
+                    cons_egress: u16_or_zero(part, 4),
                     mac,
                 },
             };

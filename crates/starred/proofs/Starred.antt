@@ -8,10 +8,12 @@ use Rattle.path.specs.Standard as standard
 use Rattle.path.specs.Segment as segment
 use Rattle.path.specs.Dataplane as dataplane
 use Rattle.moves.specs.Moves as moves
-use Rattle.starred.specs.Table.{reading, expiring, interfaceOfTwoByTwo, moving, answers, wanted}
+use Rattle.packet_header.specs.CommonHeader as common
+use Rattle.packet.specs.Raw as raw
+use Rattle.starred.specs.Table.{reading, splitting, expiring, interfaceOfTwoByTwo, moving, answers, wanted}
 
 pub starred : answers ≡ wanted
-unfolding answers wanted reading expiring interfaceOfTwoByTwo moving bigEndian bytesOf numberAt room
+unfolding answers wanted reading splitting expiring interfaceOfTwoByTwo moving bigEndian bytesOf numberAt room
     meta.nthField meta.metaOf meta.infoFieldsCount meta.hopFieldsCount meta.segmentOf meta.firstHopField meta.segmentLengthOf meta.pathLength
     meta.interfacesCount meta.segmentOfLink meta.hopFieldOf meta.lengthsValid meta.hopValid meta.infoValid meta.firstRefusal meta.checked meta.settled meta.metaRead meta.readMeta
     fields.infoFieldAt fields.hopFieldAt fields.expiryOffset fields.expiryTime
@@ -21,4 +23,5 @@ unfolding answers wanted reading expiring interfaceOfTwoByTwo moving bigEndian b
     dataplane.carriedOut dataplane.onStandard dataplane.expiryIn dataplane.interfaceFound dataplane.interfaceIn dataplane.answered
     moves.ownerOf moves.spared moves.changeInside moves.positionOf moves.moveFrom moves.atPosition moves.applied moves.movedMeta moves.moveBytes
     moves.peerings moves.peeringAllowed moves.stateOf moves.movableOf moves.onMovable moves.notLast moves.moveAnswer moves.moved
+    common.commonRefused common.readCommon raw.packetRefused raw.commonFound raw.readPacket
 starred = refl

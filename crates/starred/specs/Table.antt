@@ -2,16 +2,23 @@
 use Prim.Native.Nat.{ℕ}
 use mathlib.Core.List.{List, [], _∷_, _++_}
 use lib.ListN.{replicate}
-use Rattle.path_header.specs.Errors.{decodedNumber, answerNumber}
+use Rattle.path_header.specs.Errors.{decodedNumber, decodedValue, answerNumber}
 use Rattle.path.specs.Dataplane.{readDataplane, expiryIn, interfaceIn}
 use Rattle.wire_encoding.specs.BigEndian.{bigEndian}
 use Rattle.moves.specs.Moves.{moveAnswer, moved}
+use Rattle.packet.specs.Raw.{readPacket}
 
 -- reading a standard path of these meta bytes, enough following: the answer's number, and the path's length in bytes
 unfoldable pub reading : List ℕ → List ℕ
 reading meta =
     let read = readDataplane 1 (meta ++ replicate 60 0) in
     decodedNumber (read .answer) ∷ read .length ∷ []
+
+-- splitting a packet of these bytes: the answer's number, and its value
+unfoldable pub splitting : List ℕ → List ℕ
+splitting bytes =
+    let packet = readPacket bytes in
+    decodedNumber (packet .answer) ∷ decodedValue (packet .answer) ∷ []
 
 -- the expiry of a path of one hop field with these four timestamp bytes and this expiry byte
 unfoldable pub expiring : List ℕ → ℕ → List ℕ
@@ -42,6 +49,7 @@ answers =
     ∷ reading (0xC0 ∷ 0x00 ∷ 0x10 ∷ 0x41 ∷ [])
     ∷ reading (0x02 ∷ 0x00 ∷ 0x20 ∷ 0x40 ∷ [])
     ∷ reading (0x42 ∷ 0x00 ∷ 0x20 ∷ 0x40 ∷ [])
+    ∷ splitting (0x10 ∷ [])
     ∷ expiring (0x00 ∷ 0x00 ∷ 0x00 ∷ 0x01 ∷ []) 0x00
     ∷ expiring (0xFF ∷ 0xFF ∷ 0xFF ∷ 0xFF ∷ []) 0xFF
     ∷ interfaceOfTwoByTwo 2
@@ -59,6 +67,7 @@ wanted =
     ∷ (5 ∷ 0 ∷ [])
     ∷ (6 ∷ 0 ∷ [])
     ∷ (0 ∷ 56 ∷ [])
+    ∷ (2 ∷ 1 ∷ [])
     ∷ (0 ∷ 338500 ∷ [])
     ∷ (0 ∷ 4295053695000 ∷ [])
     ∷ (0 ∷ 2 ∷ [])

@@ -11,7 +11,7 @@ use lib.Dec.{lit<}
 use lib.ListN.{length, getD, take, drop, length-append}
 use lib.Seq.{sets, sets-eq, getD-append-add, getD-append-seam, getD-take, getD-drop, length-take-le}
 use borrow.Author.Tests.{le-leb, lt-leb}
-use Rattle.wire_encoding.specs.Choice.{value, refused}
+use Rattle.wire_encoding.specs.Choice.{value, refused, orZero}
 use Rattle.wire_encoding.specs.BigEndian.{bigEndian, bytesOf, room, numberAt, part}
 use Rattle.wire_encoding.proofs.Parts.{Bytes, part-last, sets-same}
 
@@ -46,15 +46,9 @@ module _ (width : ℕ) (bytes : List ℕ) (at : ℕ) where
   unfolding numberAt room
   truncated h = simp (lt-leb _ _ h)
 
-  -- where the bytes are there, what was read is the number, and it was not cut short
-  pub value-is : at + width ≤ length bytes → {n : ℕ} → value n ≡ numberAt width bytes at → n ≡ bigEndian width bytes at
-  value-is h {n} e = let q : value n ≡ value (bigEndian width bytes at) = e ∙ sym (found h refl) in cc
-
-  pub never-truncated : at + width ≤ length bytes → refused 1 ≡ numberAt width bytes at → ⊥
-  never-truncated h e =
-      let q : refused 1 ≡ value (bigEndian width bytes at) = e ∙ sym (found h refl) in
-      let z : _≡_ {A = ℕ} 0 1 = cc in
-      omega arith
+  -- where the bytes are there, what was read is the number
+  pub or-zero-is : at + width ≤ length bytes → orZero (numberAt width bytes at) ≡ bigEndian width bytes at
+  or-zero-is h = sym (ap orZero (found h refl))
 
 pub length-bytesOf : (width n : ℕ) → length (bytesOf width n) ≡ width
 unfolding bytesOf

@@ -11,3 +11,8 @@ pick false a b = b
 pub data Answer : Type 0 where
   value : ℕ → Answer
   refused : ℕ → Answer
+
+-- the number, or 0 for a refusal
+abbrev pub orZero : Answer → ℕ
+orZero (value n) = n
+orZero (refused number) = 0

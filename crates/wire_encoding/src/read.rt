@@ -4,6 +4,7 @@ ghost use Prim.Native.Nat.{_+_, _≤_, _<_};
 ghost use lib.ListN.{length};
 ghost use Rattle.wire_encoding.specs.BigEndian.{bigEndian, numberAt};
 ghost use Rattle.wire_encoding.specs.Answers.{answer16, answer32, answer64};
+ghost use Rattle.wire_encoding.specs.Choice.{orZero};
 
 // A 16-bit number, or too few bytes for it.
 pub enum Read16 {
@@ -79,4 +80,34 @@ pub fn get_u64(bytes: &[u8], at: usize) -> Read64
         }
     }
     Read64::Truncated
+}
+
+// The 16-bit number at `at`, or 0 where there are too few bytes.
+pub fn u16_or_zero(bytes: &[u8], at: usize) -> u16
+    ensures { λ r. ⌜ r ≡ orZero (numberAt 2 (now (bytes .entry)) at) ⌝ }
+{
+    match get_u16(bytes, at) {
+        Read16::Value(number) => number,
+        Read16::Truncated => 0,
+    }
+}
+
+// The 32-bit number at `at`, or 0 where there are too few bytes.
+pub fn u32_or_zero(bytes: &[u8], at: usize) -> u32
+    ensures { λ r. ⌜ r ≡ orZero (numberAt 4 (now (bytes .entry)) at) ⌝ }
+{
+    match get_u32(bytes, at) {
+        Read32::Value(number) => number,
+        Read32::Truncated => 0,
+    }
+}
+
+// The 64-bit number at `at`, or 0 where there are too few bytes.
+pub fn u64_or_zero(bytes: &[u8], at: usize) -> u64
+    ensures { λ r. ⌜ r ≡ orZero (numberAt 8 (now (bytes .entry)) at) ⌝ }
+{
+    match get_u64(bytes, at) {
+        Read64::Value(number) => number,
+        Read64::Truncated => 0,
+    }
 }

@@ -1,7 +1,10 @@
 -- `apply` meets its contract: the two writes are those of the definition, and the second has room.
 use mathlib.Core.Path.{ap, _∙_}
+use Prim.Native.Nat.{_+_}
 use lib.ListN.{length, length-set}
+use Rattle.wire_encoding.proofs.Numbers.{or-zero-is}
 use Rattle.wire_encoding.proofs.Writes.{length-placed}
+use Rattle.path.specs.Segment.{infoStart}
 use borrow.Author.Needs.{needs}
 use native.Mathlib.Omega.{arith}
 use Rattle.moves.proofs.Laws.{applied-placed}
@@ -17,8 +20,8 @@ add-at c = search needs
 add-at-2 : tie.Need-add-at-2
 add-at-2 c = search needs
 
-u16-at-requires : tie.Need-u16-at-requires
-u16-at-requires c κs = search needs
+u16-or-zero-requires : tie.Need-u16-or-zero-requires
+u16-or-zero-requires c κs = search needs
 
 mul-bytes : tie.Need-mul-bytes
 mul-bytes c = search needs
@@ -39,7 +42,7 @@ returns : tie.Need-returns
 returns c =
     let start = c .before .before .before .before .before .before .before in
     let a = start .before .before .before .before .args in
-    c .before .before .put-u16 .ensures .1 ∙ rw (start .u16-at .ensures) (applied-placed (a .bytes .now) (a .segment) (a .moved) (omega arith))
+    c .before .before .put-u16 .ensures .1 ∙ rw (start .u16-or-zero .ensures, or-zero-is 2 (a .bytes .now) (infoStart (a .segment) + 2) (omega arith)) (applied-placed (a .bytes .now) (a .segment) (a .moved) (omega arith))
 
 pub apply-spec : {M : Type 1} → statement M
 apply-spec =
@@ -48,7 +51,7 @@ apply-spec =
     mul-at
     add-at
     add-at-2
-    u16-at-requires
+    u16-or-zero-requires
     mul-bytes
     add-bytes
     slice-write-bytes

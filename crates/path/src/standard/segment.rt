@@ -7,8 +7,7 @@ use path_header::fields::HopField;
 use path_header::fields::InfoField;
 use path_header::fields::expiry;
 use path_header::meta_header::PathMetaHeader;
-use wire_encoding::read::Read32;
-use wire_encoding::read::get_u32;
+use wire_encoding::read::u32_or_zero;
 ghost use mathlib.Core.Path.{_≡_};
 ghost use Prim.Native.Nat.{_+_, _-_, _/_, _≤_, _<_, min};
 ghost use lib.ListN.{length};
@@ -97,10 +96,7 @@ fn timestamp_at(bytes: &[u8], at: usize) -> u32
     requires { ⌜ at + 8 ≤ length (now bytes) ⌝ }
     ensures { λ r. ⌜ r ≡ bigEndian 4 (now (bytes .entry)) (at + 4) ⌝ }
 {
-    match get_u32(bytes, at + 4) {
-        Read32::Value(number) => number,
-        Read32::Truncated => 0,
-    }
+    u32_or_zero(bytes, at + 4)
 }
 
 // The expiry of segment `k`, which is there: the least of its hop fields'.

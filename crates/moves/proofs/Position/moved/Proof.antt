@@ -1,7 +1,9 @@
 -- `Position::moved` meets its contract: its branches are those of the definition, and all that it reads lies in the path.
 use borrow.Author.Needs.{needs}
 use borrow.Author.Tests.{eq-eqb, ne-eqb}
+use Prim.Native.Nat.{_+_, _*_}
 use native.Mathlib.Omega.{arith}
+use Rattle.wire_encoding.proofs.Numbers.{or-zero-is}
 use Rattle.path_header.specs.MetaHeader.{segmentLengthOf}
 use Rattle.moves.specs.Moves.{moveFrom, changeInside}
 use Rattle.moves.proofs.Laws.{standing-at}
@@ -87,18 +89,18 @@ mul-owner-at-2 c = search needs
 add-owner-at-2 : tie.Need-add-owner-at-2
 add-owner-at-2 c = search needs
 
-add-u16-at : tie.Need-add-u16-at
-add-u16-at c = search needs
+add-u16-or-zero : tie.Need-add-u16-or-zero
+add-u16-or-zero c = search needs
 
-u16-at-requires : tie.Need-u16-at-requires
-u16-at-requires c κs =
-    let start = c .before .before .before .before .before .before .before .before .before .before .before in
-    let known = standing-at _ _ (start .pre .0) (start .pre .1) in
-    omega arith
+u16-or-zero-requires : tie.Need-u16-or-zero-requires
+u16-or-zero-requires c κs = search needs
 
 returns-3 : tie.Need-returns-3
 unfolding moveFrom changeInside segmentLengthOf
 returns-3 c =
+    let start = c .before .before .before .before .before .before .before .before .before .before .before .before in
+    let known = standing-at _ _ (start .pre .0) (start .pre .1) in
+    let owner-at = 4 + c .before .info-fields-count .result * 8 + c .before .before .before .before .before .owner-of .result * 12 in
     let next = c .before .before .before .before .before .before .before .before in
     rw (
       ← next .before .wide2 .ensures .0,
@@ -110,7 +112,8 @@ returns-3 c =
       ← c .before .before .before .is-spared .ensures,
       c .before .before .if2 .left,
       ← c .before .info-fields-count .ensures .0,
-      c .u16-at .ensures,
+      c .u16-or-zero .ensures,
+      or-zero-is 2 (start .args .bytes .now) (owner-at + 6) (omega arith),
     )
 
 pub moved-spec : {M : Type 1} → statement M
@@ -137,6 +140,6 @@ moved-spec =
     add-owner-at
     mul-owner-at-2
     add-owner-at-2
-    add-u16-at
-    u16-at-requires
+    add-u16-or-zero
+    u16-or-zero-requires
     returns-3)

@@ -3,6 +3,7 @@ use native.Mathlib.Omega.{arith}
 use borrow.Author.Needs.{needs}
 use borrow.Author.Tests.{eq-eqb, ne-eqb}
 use Rattle.wire_encoding.proofs.Parts.{part-bytes}
+use Rattle.wire_encoding.proofs.Numbers.{or-zero-is}
 use Rattle.path_header.specs.Fields.{newHopField, hopFieldAt, zeroHopField}
 use Rattle.path_header.proofs.fields.HopField.new.Statement.{statement}
 use Rattle.path_header.proofs.fields.HopField.new.Tie as tie
@@ -31,17 +32,18 @@ shared-slice-read-t6-2 c = search needs
 shared-slice-read-t16-2 : tie.Need-shared-slice-read-t16-2
 shared-slice-read-t16-2 c = search needs
 
-u16-at-requires : tie.Need-u16-at-requires
-u16-at-requires c κs = search needs
+u16-or-zero-requires : tie.Need-u16-or-zero-requires
+u16-or-zero-requires c κs = search needs
 
-u16-at-requires-2 : tie.Need-u16-at-requires-2
-u16-at-requires-2 c κs = search needs
+u16-or-zero-requires-2 : tie.Need-u16-or-zero-requires-2
+u16-or-zero-requires-2 c κs = search needs
 
 returns : tie.Need-returns
 unfolding newHopField hopFieldAt
 returns c =
     let s = c .before .before .before .before .before .before .before .before .before .before in
-    rw (eq-eqb _ _ (s .if1 .taken), part-bytes 6 6 (s .before .before .args .part .now) (omega arith), c .before .u16-at .ensures, c .u16-at2 .ensures)
+    let part = s .before .before .args .part .now in
+    rw (eq-eqb _ _ (s .if1 .taken), part-bytes 6 6 part (omega arith), c .before .u16-or-zero .ensures, or-zero-is 2 part 2 (omega arith), c .u16-or-zero2 .ensures, or-zero-is 2 part 4 (omega arith))
 
 returns-2 : tie.Need-returns-2
 unfolding newHopField zeroHopField
@@ -59,7 +61,7 @@ new-spec =
     shared-slice-read-t16
     shared-slice-read-t6-2
     shared-slice-read-t16-2
-    u16-at-requires
-    u16-at-requires-2
+    u16-or-zero-requires
+    u16-or-zero-requires-2
     returns
     returns-2)

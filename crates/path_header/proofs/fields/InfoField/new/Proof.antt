@@ -1,6 +1,8 @@
 -- `InfoField::new` meets its contract: each field is read at its offset of the part.
+use native.Mathlib.Omega.{arith}
 use borrow.Author.Needs.{needs}
 use borrow.Author.Tests.{eq-eqb, ne-eqb}
+use Rattle.wire_encoding.proofs.Numbers.{or-zero-is}
 use Rattle.path_header.specs.Fields.{newInfoField, infoFieldAt, zeroInfoField}
 use Rattle.path_header.proofs.fields.InfoField.new.Statement.{statement}
 use Rattle.path_header.proofs.fields.InfoField.new.Tie as tie
@@ -11,15 +13,18 @@ shared-slice-read-t6 c = search needs
 shared-slice-read-t8 : tie.Need-shared-slice-read-t8
 shared-slice-read-t8 c = search needs
 
-u16-at-requires : tie.Need-u16-at-requires
-u16-at-requires c κs = search needs
+u16-or-zero-requires : tie.Need-u16-or-zero-requires
+u16-or-zero-requires c κs = search needs
 
-u32-at-requires : tie.Need-u32-at-requires
-u32-at-requires c κs = search needs
+u32-or-zero-requires : tie.Need-u32-or-zero-requires
+u32-or-zero-requires c κs = search needs
 
 returns : tie.Need-returns
 unfolding newInfoField infoFieldAt
-returns c = rw (eq-eqb _ _ (c .before .before .before .before .if1 .taken), c .before .u16-at .ensures, c .u32-at .ensures)
+returns c =
+    let s = c .before .before .before .before in
+    let part = s .before .before .args .part .now in
+    rw (eq-eqb _ _ (s .if1 .taken), c .before .u16-or-zero .ensures, or-zero-is 2 part 2 (omega arith), c .u32-or-zero .ensures, or-zero-is 4 part 4 (omega arith))
 
 returns-2 : tie.Need-returns-2
 unfolding newInfoField zeroInfoField
@@ -31,7 +36,7 @@ new-spec =
     (tie.spec
     shared-slice-read-t6
     shared-slice-read-t8
-    u16-at-requires
-    u32-at-requires
+    u16-or-zero-requires
+    u32-or-zero-requires
     returns
     returns-2)

@@ -1,0 +1,296 @@
+// Calls on packets and on their headers. A host is three words: its kind, a service's number, and its bytes.
+use crate::meta_headers;
+use crate::print;
+use crate::words;
+use address::host::HostAddr;
+use address::ia::IsdAsn;
+use address::service::ServiceAddr;
+use headers::ScionHeaders;
+use packet::raw::ScionPacketRaw;
+use packet_header::address_header::AddressHeader;
+use packet_header::address_header::HostAddress;
+use packet_header::address_header::MaybeEncoded;
+use packet_header::common_header::CommonHeader;
+use packet_header::error::Encoded;
+ghost use Prim.Native.Nat.{_<_};
+
+// Document 01's number of an answer to writing.
+fn encoded(encoded: Encoded) {
+    match encoded {
+        Encoded::Done => print::number(0),
+        Encoded::Refused(error) => print::byte(error.number()),
+    }
+}
+
+// Version, traffic class, flow, next header, factor, payload length, path type, host kinds and reserved bytes.
+fn common_record(header: CommonHeader) {
+    print::byte(header.version);
+    print::byte(header.traffic_class);
+    print::number(header.flow_id as u64);
+    print::byte(header.next_header);
+    print::byte(header.header_length_factor);
+    print::number(header.payload_length as u64);
+    print::byte(header.path_type);
+    print::byte(header.destination_kind);
+    print::byte(header.source_kind);
+    print::number(header.reserved as u64);
+}
+
+// The number of a service, 0 for any other host.
+fn service_number(host: HostAddr) -> u16 {
+    match host {
+        HostAddr::V4 => 0,
+        HostAddr::V6 => 0,
+        HostAddr::Svc(service) => service.0,
+    }
+}
+
+// A host's kind, a service's number and the sixteen bytes.
+fn host(address: HostAddress) {
+    let host = address.host;
+    let bytes = address.bytes;
+    print::byte(address.kind());
+    match host {
+        MaybeEncoded::Decoded(named) => print::number(service_number(named) as u64),
+        MaybeEncoded::Encoded(_) => print::number(0),
+    }
+    print::bytes(&bytes);
+}
+
+// The networks and the hosts, each destination first.
+fn address_record(header: AddressHeader) {
+    let to = header.destination_ia;
+    let from = header.source_ia;
+    let destination = header.destination;
+    let source = header.source;
+    print::number(to.to_u64());
+    print::number(from.to_u64());
+    host(destination);
+    host(source);
+}
+
+// `common B`: the common header that begins the bytes, and the lengths of all headers, of those after it, and of the payload.
+fn common(line: &[u8]) {
+    let mut room = words::room();
+    let length = words::bytes_at(line, 1, &mut room);
+    let read = CommonHeader::decode(&room[..length]);
+    let answer = read.answer;
+    let header = read.header;
+    print::decoded(answer);
+    common_record(header);
+    print::number(header.header_length() as u64);
+    print::number(header.remaining_header_length() as u64);
+    print::number(header.payload_size() as u64);
+}
+
+// `address D S B`: the address header that begins the bytes, of hosts of kinds D and S; its length; whether each host has a name.
+fn address(line: &[u8]) {
+    let mut room = words::room();
+    let length = words::bytes_at(line, 3, &mut room);
+    let read = AddressHeader::decode_with_context(
+        &room[..length],
+        words::u8_at(line, 1),
+        words::u8_at(line, 2),
+    );
+    let answer = read.answer;
+    let header = read.header;
+    print::decoded(answer);
+    address_record(header);
+    print::number(read.length as u64);
+    let destination = header.destination();
+    let source = header.source();
+    print::flag(destination.known);
+    print::flag(source.known);
+}
+
+// `packet B`: the packet that begins the bytes, where its path and its payload lie, and their bytes.
+fn packet(line: &[u8]) {
+    let mut room = words::room();
+    let length = words::bytes_at(line, 1, &mut room);
+    let bytes = &room[..length];
+    let packet = ScionPacketRaw::decode(bytes);
+    let answer = packet.answer;
+    let common = packet.common;
+    let address = packet.address;
+    let path = packet.path;
+    let meta_header = path.meta_header;
+    let path_part = packet.path_part;
+    let payload_part = packet.payload_part;
+    print::decoded(answer);
+    common_record(common);
+    address_record(address);
+    meta_headers::record(meta_header);
+    print::number(path_part.start as u64);
+    print::bytes(ScionPacketRaw::path(bytes));
+    print::number(payload_part.start as u64);
+    print::bytes(ScionPacketRaw::payload(bytes));
+}
+
+// A host of a kind: IPv4, IPv6, a service, or a kind without a name.
+fn host_of(kind: u8, service: u16) -> MaybeEncoded {
+    if kind == 0 {
+        return MaybeEncoded::Decoded(HostAddr::V4);
+    }
+    if kind == 3 {
+        return MaybeEncoded::Decoded(HostAddr::V6);
+    }
+    if kind == 4 {
+        return MaybeEncoded::Decoded(HostAddr::Svc(ServiceAddr(service)));
+    }
+    MaybeEncoded::Encoded(kind)
+}
+
+// The host of the three words from word `k` on.
+fn host_at(line: &[u8], k: usize) -> HostAddress
+    requires { ⌜ k < 100 ⌝ }
+{
+    let mut room = words::room();
+    words::bytes_at(line, k + 2, &mut room);
+    let bytes = [
+        room[0],
+        room[1],
+        room[2],
+        room[3],
+        room[4],
+        room[5],
+        room[6],
+        room[7],
+        room[8],
+        room[9],
+        room[10],
+        room[11],
+        room[12],
+        room[13],
+        room[14],
+        room[15],
+    ];
+    let host = host_of(words::u8_at(line, k), words::u16_at(line, k + 1));
+    HostAddress { host, bytes }
+}
+
+// The address header of the eight words from word `k` on: both networks, then both hosts.
+fn address_at(line: &[u8], k: usize) -> AddressHeader
+    requires { ⌜ k < 50 ⌝ }
+{
+    let destination = host_at(line, k + 2);
+    let source = host_at(line, k + 5);
+    AddressHeader {
+        destination_ia: IsdAsn(words::u64_at(line, k)),
+        source_ia: IsdAsn(words::u64_at(line, k + 1)),
+        destination,
+        source,
+    }
+}
+
+// Writes headers and a path to a destination; prints the answer and what the destination then holds.
+fn encode(headers: ScionHeaders, path: &[u8], dst: &mut [u8]) {
+    encoded(headers.encode_to(path, dst));
+    print::bytes(dst);
+}
+
+// `write version class flow next factor payload type reserved` and the eight words of an address header, then `P D`: the headers and
+// the path P written to a destination that holds D, after the length that they ask for.
+fn write(line: &[u8]) {
+    let address = address_at(line, 9);
+    let mut room = words::room();
+    let length = words::bytes_at(line, 17, &mut room);
+    let mut dst_room = words::room();
+    let dst_length = words::bytes_at(line, 18, &mut dst_room);
+    let headers = ScionHeaders {
+        version: words::u8_at(line, 1),
+        traffic_class: words::u8_at(line, 2),
+        flow_id: words::u32_at(line, 3),
+        next_header: words::u8_at(line, 4),
+        header_length_factor: words::index_at(line, 5),
+        payload_length: words::index_at(line, 6),
+        path_type: words::u8_at(line, 7),
+        reserved: words::u16_at(line, 8),
+        address,
+    };
+    print::number(headers.encoded_length(length) as u64);
+    encode(headers, &room[..length], &mut dst_room[..dst_length]);
+}
+
+// `new next payload flow type` and the eight words of an address header, then `P D`: the factor of headers made for the path P, and the
+// headers and the path written to a destination that holds D.
+fn new(line: &[u8]) {
+    let address = address_at(line, 5);
+    let mut room = words::room();
+    let length = words::bytes_at(line, 13, &mut room);
+    let mut dst_room = words::room();
+    let dst_length = words::bytes_at(line, 14, &mut dst_room);
+    let headers = ScionHeaders::new(
+        address,
+        words::u8_at(line, 4),
+        length,
+        words::u8_at(line, 1),
+        words::index_at(line, 2),
+        words::u32_at(line, 3),
+    );
+    print::number(headers.header_length_factor as u64);
+    encode(headers, &room[..length], &mut dst_room[..dst_length]);
+}
+
+// `putcommon version class flow next factor payload type destination source reserved D`: a common header written alone.
+fn put_common(line: &[u8]) {
+    let mut room = words::room();
+    let length = words::bytes_at(line, 11, &mut room);
+    let header = CommonHeader {
+        version: words::u8_at(line, 1),
+        traffic_class: words::u8_at(line, 2),
+        flow_id: words::u32_at(line, 3),
+        next_header: words::u8_at(line, 4),
+        header_length_factor: words::u8_at(line, 5),
+        payload_length: words::u16_at(line, 6),
+        path_type: words::u8_at(line, 7),
+        destination_kind: words::u8_at(line, 8),
+        source_kind: words::u8_at(line, 9),
+        reserved: words::u16_at(line, 10),
+    };
+    let dst = &mut room[..length];
+    encoded(header.encode_to(dst));
+    print::bytes(dst);
+}
+
+// `putaddress`, the eight words of an address header, and D: an address header written alone.
+fn put_address(line: &[u8]) {
+    let header = address_at(line, 1);
+    let mut room = words::room();
+    let length = words::bytes_at(line, 9, &mut room);
+    let dst = &mut room[..length];
+    encoded(header.encode_to(dst));
+    print::bytes(dst);
+}
+
+// Answers a call of this file; whether the line is one.
+pub fn answer(line: &[u8]) -> bool {
+    if words::is_call(line, b"packet ", b"s") {
+        packet(line);
+        return true;
+    }
+    if words::is_call(line, b"common ", b"s") {
+        common(line);
+        return true;
+    }
+    if words::is_call(line, b"address ", b"bbs") {
+        address(line);
+        return true;
+    }
+    if words::is_call(line, b"write ", b"bbwbnnbhnnbhsbhsss") {
+        write(line);
+        return true;
+    }
+    if words::is_call(line, b"new ", b"bnwbnnbhsbhsss") {
+        new(line);
+        return true;
+    }
+    if words::is_call(line, b"putcommon ", b"bbwbbhbbbhs") {
+        put_common(line);
+        return true;
+    }
+    if words::is_call(line, b"putaddress ", b"nnbhsbhss") {
+        put_address(line);
+        return true;
+    }
+    false
+}

@@ -1,0 +1,187 @@
+-- Headers that the tests let through: each part of them is written, and the parts fill the destination.
+-- Assumes nothing.
+use mathlib.Core.Path.{_≡_, refl, sym, ap, _∙_}
+use mathlib.Core.Bool.{Bool, true, false}
+use mathlib.Core.List.{List, [], _++_, append-assoc}
+use Prim.Native.Nat.{ℕ, _+_, _-_, _/_, _≤_}
+use native.Mathlib.Nat.{zero-add, sub-zero, add-sub-cancel-left}
+use native.Mathlib.Omega.{arith}
+use lib.ListN.{length, take, drop, length-append}
+use lib.Seq.{sets, sets-eq, take-length, length-take-le, length-sets}
+use lib.Dec.{ltb, eqb}
+use borrow.Rule.Slice.PartMut.{putMid, post-is}
+use borrow.Author.Tests.{lt-ltb, ltb-false, eq-eqb, eqb-true}
+use Rattle.wire_encoding.specs.Choice.{pick}
+use Rattle.wire_encoding.specs.BigEndian.{part, placed}
+use Rattle.wire_encoding.proofs.Parts.{length-part, sets-append, sets-whole}
+use Rattle.wire_encoding.proofs.Writes.{placed-is}
+use Rattle.packet_header.specs.CommonHeader.{hostLength}
+use Rattle.packet_header.specs.AddressHeader.{addressLength, lengthOfKinds}
+use Rattle.packet_header.specs.Encoding.{encoded, commonFits, commonBytes, commonEncoding, addressFits, addressBytes, addressEncoding}
+use Rattle.packet_header.specs.declared.common_header.CommonHeader.{CommonHeader}
+use Rattle.packet_header.specs.declared.address_header.AddressHeader.{AddressHeader}
+use Rattle.packet_header.specs.declared.error.Encoded.the-variants.{Done, Refused}
+use Rattle.packet_header.specs.declared.error.EncodeError.the-variants.{
+  NumberTooWide,
+  InvalidHeaderLength,
+  HeaderTooLarge,
+  PayloadTooLarge,
+  InadequateBufferSize,
+}
+use Rattle.packet_header.proofs.EncodingLaws.{not-done, Widths, common-widths, length-commonBytes, Sixteen, length-addressBytes}
+use Rattle.headers.specs.declared.ScionHeaders.{ScionHeaders}
+use Rattle.headers.specs.Headers.{addedLength, addedBytes, headersLength, commonOf, encoding, headerBytes, Narrow}
+
+-- WHAT THE TESTS FOUND
+
+pub record Known (h : ScionHeaders) (n size : ℕ) : Type 0 where
+  pub fits : commonFits (commonOf h) ≡ true
+  pub not-zero : eqb (h .«header_length_factor») 0 ≡ false
+  pub factor : h .«header_length_factor» ≤ 255
+  pub payload : h .«payload_length» ≤ 65535
+  pub exact : size ≡ headersLength (h .address) (h .«path_type») n
+
+pub known : (h : ScionHeaders) (n size : ℕ) → encoding h n size ≡ Done → Known h n size
+unfolding encoding
+known h n size e =
+    go (commonFits (commonOf h)) (eqb (h .«header_length_factor») 0) (ltb 255 (h .«header_length_factor»)) (ltb 65535 (h .«payload_length»))
+    (eqb size (headersLength (h .address) (h .«path_type») n)) refl refl refl refl refl e
+  where
+    go : (f z l p s : Bool) → commonFits (commonOf h) ≡ f → eqb (h .«header_length_factor») 0 ≡ z → ltb 255 (h .«header_length_factor») ≡ l
+        → ltb 65535 (h .«payload_length») ≡ p → eqb size (headersLength (h .address) (h .«path_type») n) ≡ s
+        → pick f
+        (pick z (Refused InvalidHeaderLength)
+        (pick l (Refused HeaderTooLarge) (pick p (Refused PayloadTooLarge) (pick s Done (Refused InadequateBufferSize)))))
+        (Refused NumberTooWide) ≡ Done
+        → Known h n size
+    go false z l p s ef ez el ep es e = absurd (not-done e)
+    go true true l p s ef ez el ep es e = absurd (not-done e)
+    go true false true p s ef ez el ep es e = absurd (not-done e)
+    go true false false true s ef ez el ep es e = absurd (not-done e)
+    go true false false false false ef ez el ep es e = absurd (not-done e)
+    go true false false false true ef ez el ep es e = record {
+      fits = ef;
+      not-zero = ez;
+      factor = ltb-false _ _ el;
+      payload = ltb-false _ _ ep;
+      exact = eqb-true _ _ es;
+    }
+
+module _ (h : ScionHeaders) (n size : ℕ) (k : Known h n size) where
+  pub narrow : Narrow h
+  narrow = record { factor = k .factor; payload = k .payload }
+
+  -- so each header is written
+  pub common-writes : commonEncoding (commonOf h) 12 ≡ Done
+  unfolding commonEncoding commonOf
+  common-writes = rw (k .fits, k .not-zero)
+
+  pub address-writes : addressEncoding (h .address) (addressLength (h .address)) ≡ Done
+  unfolding addressEncoding addressFits commonOf
+  address-writes =
+      let w : Widths (commonOf h) = common-widths (commonOf h) (k .fits) in
+      rw (lt-ltb _ _ (w .destination), lt-ltb _ _ (w .source), eq-eqb (addressLength (h .address)) _ refl)
+
+-- PARTS LENT
+
+-- a part that was lent to be written, from q to q + n, is a write of what came back
+pub lent-back : (q n : ℕ) (xs ys : List ℕ) → length ys ≡ n → q + n ≤ length xs → putMid q (q + n - q) xs ys ≡ sets xs q ys
+lent-back q n xs ys e h =
+    ap (λ (r : List ℕ). take q xs ++ (ys ++ r)) (post-is q (q + n) xs (omega arith) ∙ ap (λ (m : ℕ). drop (q + m) xs) (sym e))
+    ∙ sym (append-assoc (take q xs) ys (drop (q + length ys) xs))
+    ∙ sym (sets-eq ys xs q (omega arith))
+
+-- what the callee left in the part: the header's bytes
+pub common-lent : (c : CommonHeader) (dst : List ℕ) {back : List ℕ} → commonEncoding c 12 ≡ Done → 12 ≤ length dst
+    → back ≡ encoded (commonEncoding c (length (take 12 dst))) (commonBytes c) (take 12 dst) → back ++ drop 12 dst ≡ sets dst 0 (commonBytes c)
+unfolding encoded
+common-lent c dst {back} done room e =
+    let size : length (take 12 dst) ≡ 12 = length-take-le 12 dst room in
+    let whole : back ≡ commonBytes c = rw (size, done) at e in
+    let l : length (commonBytes c) ≡ 12 = length-commonBytes c in
+    rw whole (ap (λ (m : ℕ). commonBytes c ++ drop m dst) (sym l ∙ sym (zero-add (length (commonBytes c)))) ∙ sym (sets-eq (commonBytes c) dst 0 (omega arith)))
+
+pub address-lent : (a : AddressHeader) → Sixteen a → (dst : List ℕ) {back : List ℕ} → addressEncoding a (addressLength a) ≡ Done
+    → 12 + addressLength a ≤ length dst
+    → back ≡ encoded (addressEncoding a (length (part 12 (12 + addressLength a - 12) dst))) (addressBytes a) (part 12 (12 + addressLength a - 12) dst)
+    → putMid 12 (12 + addressLength a - 12) dst back ≡ sets dst 12 (addressBytes a)
+unfolding encoded
+address-lent a s dst {back} done room e =
+    let size : length (part 12 (12 + addressLength a - 12) dst) ≡ addressLength a =
+    length-part 12 (12 + addressLength a - 12) dst (omega arith) ∙ add-sub-cancel-left 12 (addressLength a) in
+    let whole : back ≡ addressBytes a = rw (size, done) at e in
+    rw whole (lent-back 12 (addressLength a) dst (addressBytes a) (length-addressBytes a s) room)
+
+-- LENGTHS
+
+-- the address header fills whole factors, so a factor is lost only to the path
+pub factor-is : (a : AddressHeader) (type n : ℕ) → (12 + addressLength a) / 4 + addedLength type n / 4 ≡ headersLength a type n / 4
+unfolding headersLength addressLength lengthOfKinds hostLength
+factor-is a type n = omega arith
+
+pub length-addedBytes : (type : ℕ) (path : List ℕ) → length (addedBytes type path) ≡ addedLength type (length path)
+unfolding addedBytes addedLength
+length-addedBytes type path = go (eqb type 0)
+  where
+    go : (t : Bool) → length (pick t [] path) ≡ pick t 0 (length path)
+    go true = refl
+    go false = refl
+
+-- the bytes that a path adds are its first ones
+pub added-part : (type : ℕ) (path : List ℕ) → take (addedLength type (length path)) path ≡ addedBytes type path
+unfolding addedBytes addedLength
+added-part type path = go (eqb type 0)
+  where
+    go : (t : Bool) → take (pick t 0 (length path)) path ≡ pick t [] path
+    go true = refl
+    go false = take-length path
+
+pub added-few : (type n : ℕ) → addedLength type n ≤ n
+unfolding addedLength
+added-few type n = go (eqb type 0)
+  where
+    go : (t : Bool) → pick t 0 n ≤ n
+    go true = omega arith
+    go false = omega arith
+
+pub length-headerBytes : (h : ScionHeaders) (path : List ℕ) → Sixteen (h .address)
+    → length (headerBytes h path) ≡ headersLength (h .address) (h .«path_type») (length path)
+unfolding headerBytes headersLength
+length-headerBytes h path s =
+    let c = length-commonBytes (commonOf h) in
+    let a = length-addressBytes (h .address) s in
+    let p = length-addedBytes (h .«path_type») path in
+    simp length-append (omega arith)
+
+-- the three parts written one after the other fill the destination
+pub all-written : (h : ScionHeaders) (path dst : List ℕ) → Sixteen (h .address) → length dst ≡ headersLength (h .address) (h .«path_type») (length path)
+    → sets (sets (sets dst 0 (commonBytes (commonOf h))) 12 (addressBytes (h .address))) (12 + addressLength (h .address)) (addedBytes (h .«path_type») path)
+    ≡ headerBytes h path
+unfolding headerBytes
+all-written h path dst s size =
+    let x = commonBytes (commonOf h) in
+    let y = addressBytes (h .address) in
+    let z = addedBytes (h .«path_type») path in
+    let one : length x ≡ 12 = length-commonBytes (commonOf h) in
+    let two : length y ≡ addressLength (h .address) = length-addressBytes (h .address) s in
+    let whole : sets dst 0 (x ++ (y ++ z)) ≡ x ++ (y ++ z) = sets-whole (x ++ (y ++ z)) dst (length-headerBytes h path s ∙ sym size) in
+    let apart : sets dst 0 (x ++ (y ++ z)) ≡ sets (sets (sets dst 0 x) (0 + length x) y) (0 + length x + length y) z =
+    sets-append x (y ++ z) dst 0 ∙ sets-append y z (sets dst 0 x) (0 + length x) in
+    sym (rw (one, two) at apart) ∙ whole
+
+-- the three writes of a function that calls for each of them; the path's part is lent from 0 on
+pub three-written : (h : ScionHeaders) (path dst : List ℕ) → Sixteen (h .address) → length dst ≡ headersLength (h .address) (h .«path_type») (length path)
+    → {one two three : List ℕ} → one ≡ sets dst 0 (commonBytes (commonOf h)) → two ≡ sets one 12 (addressBytes (h .address))
+    → three ≡ placed two (12 + addressLength (h .address)) (take (addedLength (h .«path_type») (length path) - 0) path) → three ≡ headerBytes h path
+unfolding headersLength
+three-written h path dst s size {one} {two} {three} e1 e2 e3 =
+    let fixed = 12 + addressLength (h .address) in
+    let added = addedBytes (h .«path_type») path in
+    let run : take (addedLength (h .«path_type») (length path) - 0) path ≡ added = rw sub-zero (added-part (h .«path_type») path) in
+    let kept : length two ≡ length dst = ap length e2 ∙ length-sets one 12 (addressBytes (h .address)) ∙ ap length e1 ∙ length-sets dst 0 (commonBytes (commonOf h)) in
+    let room : fixed + addedLength (h .«path_type») (length path) ≤ length two = omega (arith, size, kept) in
+    e3
+    ∙ ap (placed two fixed) run
+    ∙ placed-is two fixed added (addedLength (h .«path_type») (length path)) (length-addedBytes (h .«path_type») path) room
+    ∙ ap (λ (l : List ℕ). sets l fixed added) (e2 ∙ ap (λ (l : List ℕ). sets l 12 (addressBytes (h .address))) e1)
+    ∙ all-written h path dst s size

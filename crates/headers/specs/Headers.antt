@@ -1,0 +1,91 @@
+-- All headers of a packet as bytes: the draft's Common Header, Address Header and path; and what writing them does.
+use Prim.Native.Nat.{ℕ, _+_, _-_, _/_, _^_, _≤_, min}
+use mathlib.Core.Path.{_≡_}
+use mathlib.Core.List.{List, [], _++_}
+use lib.Dec.{ltb, eqb}
+use Rattle.wire_encoding.specs.Choice.{pick}
+use Rattle.packet_header.specs.AddressHeader.{kindOf, addressLength}
+use Rattle.packet_header.specs.Encoding.{commonFits, commonBytes, addressBytes}
+use Rattle.packet_header.specs.declared.common_header.CommonHeader.{CommonHeader}
+use Rattle.packet_header.specs.declared.address_header.AddressHeader.{AddressHeader}
+use Rattle.packet_header.specs.declared.error.Encoded.{Encoded}
+use Rattle.packet_header.specs.declared.error.Encoded.the-variants.{Done, Refused}
+use Rattle.packet_header.specs.declared.error.EncodeError.the-variants.{
+  NumberTooWide,
+  InvalidHeaderLength,
+  HeaderTooLarge,
+  PayloadTooLarge,
+  InadequateBufferSize,
+}
+use Rattle.headers.specs.declared.ScionHeaders.{ScionHeaders}
+
+-- a path to be written is a type byte and bytes: type 0 adds none, any other adds its bytes as given
+unfoldable pub addedLength : ℕ → ℕ → ℕ
+addedLength type n = pick (eqb type 0) 0 n
+
+unfoldable pub addedBytes : ℕ → List ℕ → List ℕ
+addedBytes type path = pick (eqb type 0) [] path
+
+-- the length of all headers with a path of n bytes: it need not be a multiple of 4
+unfoldable pub headersLength : AddressHeader → ℕ → ℕ → ℕ
+headersLength address type n = 12 + addressLength address + addedLength type n
+
+-- the headers of a packet: the factor is the header length / 4, rounded down
+unfoldable pub newHeaders : AddressHeader → ℕ → ℕ → ℕ → ℕ → ℕ → ScionHeaders
+newHeaders address type n nextHeader payload flow =
+    record {
+      version = 0;
+      «traffic_class» = 0;
+      «flow_id» = flow;
+      «next_header» = nextHeader;
+      «header_length_factor» = headersLength address type n / 4;
+      «payload_length» = payload;
+      «path_type» = type;
+      reserved = 0;
+      address = address;
+    }
+
+-- their length as a 64-bit number: the largest stands for all that are larger
+unfoldable pub encodedLength : ScionHeaders → ℕ → ℕ
+encodedLength h n = min (headersLength (h .address) (h .«path_type») n) (2 ^ 64 - 1)
+
+-- the common header: the host kinds are the hosts'
+unfoldable pub commonOf : ScionHeaders → CommonHeader
+commonOf h =
+    record {
+      version = h .version;
+      «traffic_class» = h .«traffic_class»;
+      «flow_id» = h .«flow_id»;
+      «next_header» = h .«next_header»;
+      «header_length_factor» = h .«header_length_factor»;
+      «payload_length» = h .«payload_length»;
+      «path_type» = h .«path_type»;
+      «destination_kind» = kindOf (h .address .destination .host);
+      «source_kind» = kindOf (h .address .source .host);
+      reserved = h .reserved;
+    }
+
+-- 01's order: 10, 3 for factor 0, 12 for a factor above 255, 11 for a payload above 65,535, 9 for a destination of another size
+unfoldable pub encoding : ScionHeaders → ℕ → ℕ → Encoded
+encoding h n size =
+    pick (commonFits (commonOf h))
+    (pick (eqb (h .«header_length_factor») 0) (Refused InvalidHeaderLength)
+    (pick (ltb 255 (h .«header_length_factor»)) (Refused HeaderTooLarge)
+    (pick (ltb 65535 (h .«payload_length»)) (Refused PayloadTooLarge)
+    (pick (eqb size (headersLength (h .address) (h .«path_type») n)) Done (Refused InadequateBufferSize)))))
+    (Refused NumberTooWide)
+
+-- what is written
+unfoldable pub headerBytes : ScionHeaders → List ℕ → List ℕ
+headerBytes h path = commonBytes (commonOf h) ++ (addressBytes (h .address) ++ addedBytes (h .«path_type») path)
+
+-- WHAT THE STEPS INSIDE A CALL ASK
+
+-- factor and payload length fit their fields
+pub record Narrow (h : ScionHeaders) : Type 0 where
+  pub factor : h .«header_length_factor» ≤ 255
+  pub payload : h .«payload_length» ≤ 65535
+
+-- headers that the tests let through
+pub record Writable (h : ScionHeaders) (n size : ℕ) : Type 0 where
+  pub done : encoding h n size ≡ Done

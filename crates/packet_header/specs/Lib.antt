@@ -1,0 +1,3 @@
+pub mod CommonHeader
+pub mod AddressHeader
+pub mod Encoding

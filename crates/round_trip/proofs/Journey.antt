@@ -1,0 +1,329 @@
+-- The induction over a list of events: whatever happens, each packet is as its end and its count say, so each stands where it should,
+-- and what an end takes in is the reply or B.
+-- Assumes nothing.
+use Prim.Native.Nat.{ℕ, zero, suc, _+_, _<_}
+use mathlib.Core.Path.{_≡_, refl, sym, ap, _∙_, subst}
+use mathlib.Core.Bool.{Bool, true, false}
+use mathlib.Core.List.{List, [], _∷_, _++_}
+use mathlib.Core.Option.{Option, none, some, IsSome, Option·some-injective}
+use native.Mathlib.Omega.{arith}
+use lib.Dec.{eqb}
+use lib.ListN.{length, set, getElem?}
+use borrow.Author.Tests.{eqb-true, eqb-false}
+use Rattle.wire_encoding.specs.Choice.{pick}
+use Rattle.path_header.specs.MetaHeader.{hopFieldsCount, pathLength}
+use Rattle.path_header.specs.declared.meta_header.PathMetaHeader.{PathMetaHeader}
+use Rattle.path_header.specs.declared.error.Answer.{Answer}
+use Rattle.path_header.specs.declared.error.Answer.the-variants.{Accepted, Refused}
+use Rattle.path_header.specs.declared.error.PathError.{PathError}
+use Rattle.reverse.specs.Reverse.{reverseAnswer, reversed}
+use Rattle.moves.specs.Moves as moves
+use Rattle.round_trip.specs.RoundTrip.{
+  End,
+  first,
+  other,
+  Packet,
+  State,
+  begin,
+  byEnd,
+  Event,
+  sending,
+  single-move,
+  walk,
+  loss,
+  doubling,
+  arrival,
+  onTheWay,
+  onPacket,
+  onAccepted,
+  sent,
+  moved,
+  walked,
+  without,
+  headerOf,
+  hopFields,
+  pointer,
+  atLast,
+  holding,
+  arrived,
+  step,
+  after,
+  met,
+  meets,
+  Begun,
+  Stands,
+  All,
+  reply,
+  reached,
+  Claim,
+}
+use Rattle.round_trip.proofs.Fields.{by-lt}
+use Rattle.round_trip.proofs.Mirror.{Path}
+use Rattle.round_trip.proofs.Meetings.{header-read}
+use Rattle.round_trip.proofs.Calls.{
+  read-accepted,
+  move-accepted,
+  move-refused,
+  walk-accepted,
+  walk-reports,
+  turn-accepted,
+  turn-refused,
+}
+use Rattle.round_trip.proofs.Packets.{
+  track,
+  trackMeta,
+  some-hop,
+  track-path,
+  track-pointer,
+  track-hops,
+  track-met,
+  track-moved,
+  walk-inside,
+  track-walked,
+  track-length,
+  turned-out,
+  turned-back,
+  reply-track,
+}
+
+-- EVERY ELEMENT OF A LIST
+
+module _ {A : Type 0} (P : A → Type 0) where
+  all-append : (l m : List A) → All P l → All P m → All P (l ++ m)
+  unfolding All
+  all-append [] m h k = k
+  all-append (a ∷ l) m h k = (h .0, all-append l m (h .1) k)
+
+  all-set : (l : List A) (i : ℕ) (a : A) → All P l → P a → All P (set l i a)
+  unfolding All
+  all-set [] i a h p = tt
+  all-set (b ∷ l) zero a h p = (p, h .1)
+  all-set (b ∷ l) (suc i) a h p = (h .0, all-set l i a (h .1) p)
+
+  all-get : (l : List A) (i : ℕ) (a : A) → All P l → getElem? l i ≡ some a → P a
+  unfolding All
+  all-get [] i a h e = absurd (subst IsSome (sym e) tt)
+  all-get (b ∷ l) zero a h e = subst P (Option·some-injective b a e) (h .0)
+  all-get (b ∷ l) (suc i) a h e = all-get l i a (h .1) e
+
+  all-one : (a : A) → P a → All P (a ∷ [])
+  unfolding All
+  all-one a p = (p, tt)
+
+all-map : {A : Type 0} (P Q : A → Type 0) → ((a : A) → P a → Q a) → (l : List A) → All P l → All Q l
+unfolding All
+all-map P Q f [] h = tt
+all-map P Q f (a ∷ l) h = (f a (h .0), all-map P Q f l (h .1))
+
+all-without : (P : Packet → Type 0) (l : List Packet) (i : ℕ) → All P l → All P (without i l)
+unfolding without All
+all-without P [] i h = tt
+all-without P (q ∷ l) zero h = h .1
+all-without P (q ∷ l) (suc i) h = (h .0, all-without P l i (h .1))
+
+-- A CALL THAT IS ACCEPTED, AND ONE THAT IS REFUSED
+
+pub accepted-is : {A : Type 0} (a : Answer) (changed kept : A) → a ≡ Accepted → onAccepted a changed kept ≡ changed
+unfolding onAccepted
+accepted-is a changed kept e = rw e
+
+refused-is : {A : Type 0} (a : Answer) (changed kept : A) {error : PathError} → a ≡ Refused error → onAccepted a changed kept ≡ kept
+unfolding onAccepted
+refused-is a changed kept e = rw e
+
+-- A PACKET
+
+record Tracked (b : List ℕ) (to : End) (bytes : List ℕ) (count : ℕ) : Type 0 where
+  below : count < hopFields b
+  is : bytes ≡ track b to count
+
+abbrev Each : List ℕ → Packet → Type 0
+Each b q = Tracked b (q .to) (q .bytes) (q .count)
+
+module _ (b : List ℕ) (g : Begun b) where
+  abbrev N : ℕ
+  N = hopFields b
+
+  module _ (q : Packet) (t : Each b q) where
+    abbrev m : PathMetaHeader
+    m = trackMeta b (q .to) (q .count)
+
+    path : Path (q .bytes) m
+    path = subst (λ (x : List ℕ). Path x m) (sym (t .is)) (track-path b g (q .to) (q .count) (t .below))
+
+    header : headerOf (q .bytes) ≡ m
+    header = header-read (q .bytes) m path
+
+    hop : m .«current_hop_field» ≡ q .count
+    hop = track-pointer b g (q .to) (q .count) (t .below)
+
+    hops : hopFieldsCount m ≡ N
+    hops = track-hops b g (q .to) (q .count) (t .below)
+
+    at-hop : pointer (q .bytes) ≡ q .count
+    at-hop = ap (λ (h : PathMetaHeader). h .«current_hop_field») header ∙ hop
+
+    stands : Stands b q
+    stands =
+        record {
+          read = read-accepted (q .bytes) m path;
+          long = ap hopFieldsCount header ∙ hops;
+          counted = sym at-hop;
+          standing =
+              ap met (t .is) ∙ track-met b g (q .to) (q .count) (t .below) ∙ ap (meets b (q .to)) (sym at-hop);
+        }
+
+    moved-tracked : Each b (moved q)
+    unfolding moved
+    moved-tracked =
+        let next : Packet = record { bytes = moves.moved 1 (q .bytes); to = q .to; count = q .count + 1 } in
+        by-lt (q .count + 1) N
+        (λ l. subst (Each b) (sym (accepted-is (moves.moveAnswer 1 (q .bytes) .answer) next q (move-accepted (q .bytes) m path (omega (arith, hop, hops)))))
+        (record { below = l; is = ap (moves.moved 1) (t .is) ∙ track-moved b g (q .to) (q .count) l }))
+        (λ l. subst (Each b) (sym (refused-is (moves.moveAnswer 1 (q .bytes) .answer) next q (move-refused (q .bytes) m path (omega (arith, hop, hops))))) t)
+
+    walked-tracked : (limit : ℕ) → Each b (walked limit q)
+    unfolding walked
+    walked-tracked limit =
+        let n : ℕ = moves.walkMoves m limit in
+        let report = moves.walkAnswer 1 (q .bytes) limit in
+        let next : Packet = record { bytes = moves.walked 1 (q .bytes) limit; to = q .to; count = q .count + report .moves } in
+        let reports : report .moves ≡ n = walk-reports (q .bytes) m path limit in
+        subst (Each b) (sym (accepted-is (report .answer) next q (walk-accepted (q .bytes) m path limit)))
+        (record {
+          below = omega (arith, reports, walk-inside b g (q .to) (q .count) (t .below) limit);
+          is =
+              ap (λ (x : List ℕ). moves.walked 1 x limit) (t .is)
+              ∙ track-walked b g (q .to) (q .count) (t .below) limit
+              ∙ ap (λ (c : ℕ). track b (q .to) (q .count + c)) (sym reports);
+        })
+
+    -- where it arrives
+    last-count : atLast (q .bytes) ≡ true → q .count + 1 ≡ N
+    unfolding atLast
+    last-count e =
+        omega (arith, eqb-true (pointer (q .bytes) + 1) (hopFields (q .bytes)) e, at-hop, ap hopFieldsCount header ∙ hops)
+
+  -- THE STATE
+
+  record Holds (s : State) : Type 0 where
+    packets : All (Each b) (s .packets)
+    counts : All (λ q. q .count + 1 ≡ hopFields b) (s .taken)
+    first-end : s .first-holds ≡ some b
+    other-end : s .other-holds ≡ pick (reached (s .taken)) (some (reply b)) none
+
+  at-first : Holds (begin b)
+  unfolding begin All reached
+  at-first = record { packets = tt; counts = tt; first-end = refl; other-end = refl }
+
+  -- other packets, and nothing else changed
+  on-the-way : (s : State) → Holds s → (l : List Packet) → All (Each b) l → Holds (onTheWay s l)
+  unfolding onTheWay
+  on-the-way s v l h = record { packets = h; counts = v .counts; first-end = v .first-end; other-end = v .other-end }
+
+  sends : (s : State) → Holds s → (to : End) (x : List ℕ) → Tracked b to x 0 → Holds (sent s to (some x))
+  unfolding sent
+  sends s v to x t =
+      let q : Packet = record { bytes = x; to = to; count = 0 } in
+      on-the-way s v (s .packets ++ (q ∷ [])) (all-append (Each b) (s .packets) (q ∷ []) (v .packets) (all-one (Each b) q t))
+
+  first-sends : (s : State) → Holds s → Holds (sent s other (s .first-holds))
+  unfolding track
+  first-sends s v =
+      subst (λ (o : Option (List ℕ)). Holds (sent s other o)) (sym (v .first-end)) (sends s v other b (record { below = some-hop b g; is = refl }))
+
+  other-sends : (s : State) → Holds s → Holds (sent s first (s .other-holds))
+  unfolding sent
+  other-sends s v = subst (λ (o : Option (List ℕ)). Holds (sent s first o)) (sym (v .other-end)) (go (reached (s .taken)))
+    where
+      go : (r : Bool) → Holds (sent s first (pick r (some (reply b)) none))
+      go true = sends s v first (reply b) (record { below = some-hop b g; is = reply-track b g })
+      go false = v
+
+  -- an event on a packet that is there
+  on-packet : (s : State) (i : ℕ) (event : Packet → State) → Holds s → ((q : Packet) → Each b q → Holds (event q))
+      → Holds (onPacket s (getElem? (s .packets) i) event)
+  unfolding onPacket
+  on-packet s i event v h = go (getElem? (s .packets) i) refl
+    where
+      go : (o : Option Packet) → getElem? (s .packets) i ≡ o → Holds (onPacket s o event)
+      go none e = v
+      go (some q) e = h q (all-get (Each b) (s .packets) i q (v .packets) e)
+
+  -- the end takes the packet in
+  takes-in : (s : State) → Holds s → (i : ℕ) (to : End) (x : List ℕ) (c : ℕ) → Tracked b to x c → c + 1 ≡ hopFields b
+      → (dst : List ℕ) → length dst ≡ length b → Holds (holding s i (record { bytes = x; to = to; count = c }) (reversed 1 x dst))
+  unfolding holding byEnd All reached
+  takes-in s v i other x c t last dst e =
+      record {
+        packets = all-without (Each b) (s .packets) i (v .packets);
+        counts = (last, v .counts);
+        first-end = v .first-end;
+        other-end = ap {B = Option (List ℕ)} some (ap (λ (y : List ℕ). reversed 1 y dst) (t .is) ∙ turned-out b g c last dst e ∙ sym (reply-track b g));
+      }
+  takes-in s v i first x c t last dst e =
+      record {
+        packets = all-without (Each b) (s .packets) i (v .packets);
+        counts = (last, v .counts);
+        first-end = ap {B = Option (List ℕ)} some (ap (λ (y : List ℕ). reversed 1 y dst) (t .is) ∙ turned-back b g c last dst e);
+        other-end = v .other-end;
+      }
+
+  arrives : (s : State) → Holds s → (i : ℕ) (dst : List ℕ) (q : Packet) → Each b q → Holds (arrived s i dst q)
+  unfolding arrived
+  arrives s v i dst q t = go (atLast (q .bytes)) refl (eqb (length dst) (length b)) refl
+    where
+      answer : Answer
+      answer = reverseAnswer 1 (q .bytes) (length dst) .answer
+
+      taken : State
+      taken = holding s i q (reversed 1 (q .bytes) dst)
+
+      long : length b ≡ pathLength (m q t)
+      long = track-length b g (q .to) (q .count) (t .below)
+
+      go : (a : Bool) → atLast (q .bytes) ≡ a → (r : Bool) → eqb (length dst) (length b) ≡ r → Holds (pick a (onAccepted answer taken s) s)
+      go false e r f = v
+      go true e true f =
+          let size : length dst ≡ length b = eqb-true (length dst) (length b) f in
+          subst Holds (sym (accepted-is answer taken s (turn-accepted (q .bytes) (m q t) (path q t) dst (size ∙ long) .0)))
+          (takes-in s v i (q .to) (q .bytes) (q .count) t (last-count q t e) dst size)
+      go true e false f =
+          subst Holds
+          (sym (refused-is answer taken s (turn-refused (q .bytes) (m q t) (path q t) dst (λ size. eqb-false (length dst) (length b) f (size ∙ sym long)))))
+          v
+
+  -- THE EVENTS
+
+  on-step : (s : State) → Holds s → (e : Event) → Holds (step s e)
+  unfolding step
+  on-step s v (sending first) = first-sends s v
+  on-step s v (sending other) = other-sends s v
+  on-step s v (single-move i) =
+      on-packet s i (λ q. onTheWay s (set (s .packets) i (moved q))) v
+      (λ q t. on-the-way s v (set (s .packets) i (moved q)) (all-set (Each b) (s .packets) i (moved q) (v .packets) (moved-tracked q t)))
+  on-step s v (walk i limit) =
+      on-packet s i (λ q. onTheWay s (set (s .packets) i (walked limit q))) v
+      (λ q t. on-the-way s v (set (s .packets) i (walked limit q)) (all-set (Each b) (s .packets) i (walked limit q) (v .packets) (walked-tracked q t limit)))
+  on-step s v (loss i) = on-the-way s v (without i (s .packets)) (all-without (Each b) (s .packets) i (v .packets))
+  on-step s v (doubling i) =
+      on-packet s i (λ q. onTheWay s (s .packets ++ (q ∷ []))) v
+      (λ q t. on-the-way s v (s .packets ++ (q ∷ [])) (all-append (Each b) (s .packets) (q ∷ []) (v .packets) (all-one (Each b) q t)))
+  on-step s v (arrival i dst) = on-packet s i (arrived s i dst) v (arrives s v i dst)
+
+  on-events : (s : State) → Holds s → (events : List Event) → Holds (after s events)
+  unfolding after
+  on-events s v [] = v
+  on-events s v (e ∷ events) = on-events (step s e) (on-step s v e) events
+
+  pub journey : (events : List Event) → Claim b (after (begin b) events)
+  journey events =
+      let s : State = after (begin b) events in
+      let v : Holds s = on-events (begin b) at-first events in
+      record {
+        standing = all-map (Each b) (Stands b) stands (s .packets) (v .packets);
+        walking = λ limit. all-map (Each b) (λ q. Stands b (walked limit q)) (λ q t. stands (walked limit q) (walked-tracked q t limit)) (s .packets) (v .packets);
+        counts = v .counts;
+        first-end = v .first-end;
+        other-end = v .other-end;
+      }

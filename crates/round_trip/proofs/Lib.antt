@@ -1,0 +1,16 @@
+pub mod Xor
+pub mod Fields
+pub mod Shape
+pub mod Turned
+pub mod Mirror
+pub mod Moved
+pub mod Back
+pub mod Onward
+pub mod Meetings
+pub mod Calls
+pub mod Packets
+pub mod Journey
+pub mod RoundTrip
+pub mod Reply
+pub mod Trip
+pub mod Examples

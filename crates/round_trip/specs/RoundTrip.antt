@@ -1,0 +1,267 @@
+-- Demand 3, as document 01 spells it out under "Move": two ends, their packets, the events, what a list of events leaves, and the
+-- claim about it. Quoted are 01's words. A move, a walk and a turn are the definitions that the contracts of these calls cite.
+use Prim.Native.Nat.{ℕ, zero, suc, _+_, _-_, _≤_, _<_}
+use mathlib.Core.Path.{_≡_}
+use mathlib.Core.Bool.{Bool, true, false}
+use mathlib.Core.List.{List, [], _∷_, _++_}
+use mathlib.Core.Option.{Option, none, some}
+use lib.ListN.{length, getD, set, replicate, getElem?}
+use lib.Dec.{eqb}
+use lib.Bits.{bitXor}
+use Rattle.wire_encoding.specs.Choice.{pick}
+use Rattle.wire_encoding.specs.BigEndian.{part}
+use Rattle.path_header.specs.MetaHeader.{hopFieldsCount, pathLength, segmentOf, firstHopField}
+use Rattle.path_header.specs.Fields.{infoFieldAt, hopFieldAt, ingressInterface, egressInterface}
+use Rattle.path_header.specs.declared.meta_header.PathMetaHeader.{PathMetaHeader}
+use Rattle.path_header.specs.declared.fields.InfoField.{InfoField}
+use Rattle.path_header.specs.declared.fields.Interface.{Interface}
+use Rattle.path_header.specs.declared.error.Answer.{Answer}
+use Rattle.path_header.specs.declared.error.Answer.the-variants.{Accepted, Refused}
+use Rattle.path.specs.Segment.{infoStart, hopStart}
+use Rattle.path.specs.Dataplane.{standardOf}
+use Rattle.reverse.specs.Reverse as reverse
+use Rattle.moves.specs.Moves as moves
+
+-- THE ENDS AND THE PACKETS
+
+-- the first sender, and the other end
+pub data End : Type 0 where
+  first : End
+  other : End
+
+-- "A packet here is a path's bytes, the end it goes to and its count of moves."
+pub record Packet : Type 0 where
+  pub bytes : List ℕ
+  pub to : End
+  pub count : ℕ
+
+-- what the ends hold, the packets on the way, and the packets whose arrival was taken
+pub record State : Type 0 where
+  pub first-holds : Option (List ℕ)
+  pub other-holds : Option (List ℕ)
+  pub packets : List Packet
+  pub taken : List Packet
+
+-- "At first one end, the first sender, holds B, the other end holds nothing, and no packet is on the way."
+unfoldable pub begin : List ℕ → State
+begin b = record { first-holds = some b; other-holds = none; packets = []; taken = [] }
+
+-- by an end: the first where it is the first sender
+unfoldable pub byEnd : {A : Type 0} → End → A → A → A
+byEnd first a b = a
+byEnd other a b = b
+
+-- THE EVENTS: packets are named by their place among those on the way, so any may be next; an arrival names the lent destination
+
+pub data Event : Type 0 where
+  sending : End → Event
+  single-move : ℕ → Event
+  walk : ℕ → ℕ → Event
+  loss : ℕ → Event
+  doubling : ℕ → Event
+  arrival : ℕ → List ℕ → Event
+
+unfoldable pub onTheWay : State → List Packet → State
+onTheWay s packets = record { first-holds = s .first-holds; other-holds = s .other-holds; packets = packets; taken = s .taken }
+
+-- "a packet that isn't there … change nothing"
+unfoldable pub onPacket : State → Option Packet → (Packet → State) → State
+onPacket s none event = s
+onPacket s (some packet) event = event packet
+
+-- "a refused call (15, or 9 at the turn) change nothing"
+unfoldable pub onAccepted : {A : Type 0} → Answer → A → A → A
+onAccepted Accepted changed kept = changed
+onAccepted (Refused error) changed kept = kept
+
+-- "Sending by an end: a copy of what it holds goes on the way to the other end, count 0."; "An end with nothing to send … change nothing"
+unfoldable pub sent : State → End → Option (List ℕ) → State
+sent s to none = s
+sent s to (some path) = onTheWay s (s .packets ++ (record { bytes = path; to = to; count = 0 } ∷ []))
+
+-- "Single move … of a packet: the call on its bytes; the count gains 1"
+unfoldable pub moved : Packet → Packet
+moved q =
+    onAccepted (moves.moveAnswer 1 (q .bytes) .answer) (record { bytes = moves.moved 1 (q .bytes); to = q .to; count = q .count + 1 }) q
+
+-- "or walk with any limit, of a packet: the call on its bytes; the count gains … what the walk reports"
+unfoldable pub walked : ℕ → Packet → Packet
+walked limit q =
+    let report = moves.walkAnswer 1 (q .bytes) limit in
+    onAccepted (report .answer) (record { bytes = moves.walked 1 (q .bytes) limit; to = q .to; count = q .count + report .moves }) q
+
+-- "Loss: the packet is gone."
+unfoldable pub without : ℕ → List Packet → List Packet
+without i [] = []
+without zero (q ∷ packets) = packets
+without (suc i) (q ∷ packets) = q ∷ without i packets
+
+-- the header that reading a path hands back
+unfoldable pub headerOf : List ℕ → PathMetaHeader
+headerOf bytes = standardOf 1 bytes .path .«meta_header»
+
+-- N, and the hop pointer
+abbrev pub hopFields : List ℕ → ℕ
+hopFields bytes = hopFieldsCount (headerOf bytes)
+
+abbrev pub pointer : List ℕ → ℕ
+pointer bytes = headerOf bytes .«current_hop_field»
+
+-- "a packet arrives when the pointer is N − 1"
+unfoldable pub atLast : List ℕ → Bool
+atLast bytes = eqb (pointer bytes + 1) (hopFields bytes)
+
+-- "the end holds the path so written in place of what it held, and the packet is gone"
+unfoldable pub holding : State → ℕ → Packet → List ℕ → State
+holding s i q path =
+    record {
+      first-holds = byEnd (q .to) (some path) (s .first-holds);
+      other-holds = byEnd (q .to) (s .other-holds) (some path);
+      packets = without i (s .packets);
+      taken = q ∷ s .taken;
+    }
+
+-- "Arrival: a packet whose hop pointer is N − 1 is turned into a destination that its end lends"; "an arrival elsewhere than at N − 1 … change nothing"
+unfoldable pub arrived : State → ℕ → List ℕ → Packet → State
+arrived s i destination q =
+    pick (atLast (q .bytes))
+    (onAccepted (reverse.reverseAnswer 1 (q .bytes) (length destination) .answer)
+    (holding s i q (reverse.reversed 1 (q .bytes) destination))
+    s)
+    s
+
+unfoldable pub step : State → Event → State
+step s (sending first) = sent s other (s .first-holds)
+step s (sending other) = sent s first (s .other-holds)
+step s (single-move i) = onPacket s (getElem? (s .packets) i) (λ q. onTheWay s (set (s .packets) i (moved q)))
+step s (walk i limit) = onPacket s (getElem? (s .packets) i) (λ q. onTheWay s (set (s .packets) i (walked limit q)))
+step s (loss i) = onTheWay s (without i (s .packets))
+step s (doubling i) = onPacket s (getElem? (s .packets) i) (λ q. onTheWay s (s .packets ++ (q ∷ [])))
+step s (arrival i destination) = onPacket s (getElem? (s .packets) i) (arrived s i destination)
+
+-- "Each event gets what the last one left"
+unfoldable pub after : State → List Event → State
+after s [] = s
+after s (event ∷ events) = after (step s event) events
+
+-- WHAT A HOP FIELD MEETS
+
+pub record Meeting : Type 0 where
+  pub field : List ℕ
+  pub accumulator : ℕ
+  pub entry : Interface
+  pub exit : Interface
+
+-- the info field of hop field j's segment
+unfoldable pub infoOf : List ℕ → ℕ → InfoField
+infoOf bytes j = infoFieldAt bytes (infoStart (segmentOf (headerOf bytes) j))
+
+-- hop field j with an accumulator: its 12 bytes; "A hop field's entry interface is its construction ingress where its segment's
+-- direction is set, else its construction egress; its exit interface is the other."
+unfoldable pub meeting : List ℕ → ℕ → ℕ → Meeting
+meeting bytes j accumulator =
+    let field = hopFieldAt bytes (hopStart (headerOf bytes) j) in
+    record {
+      field = part (hopStart (headerOf bytes) j) 12 bytes;
+      accumulator = accumulator;
+      entry = ingressInterface (infoOf bytes j) field;
+      exit = egressInterface (infoOf bytes j) field;
+    }
+
+-- "A hop field meets its segment's accumulator as it is while the hop pointer stands there"
+unfoldable pub met : List ℕ → Meeting
+met bytes = meeting bytes (pointer bytes) (infoOf bytes (pointer bytes) .accumulator)
+
+-- segment k's accumulator in B, "XOR the first two code bytes of the owner of each move inside that segment", n moves from its first
+-- hop field, "save owners spared for peering"
+unfoldable pub accumulatorAfter : List ℕ → ℕ → ℕ → ℕ
+accumulatorAfter b k zero = infoFieldAt b (infoStart k) .accumulator
+accumulatorAfter b k (suc n) =
+    bitXor (accumulatorAfter b k n) (moves.changeInside b (headerOf b) k (firstHopField (headerOf b) k + n))
+
+-- "Hop field i of B has its accumulator by B alone … from its first hop field to i"
+unfoldable pub accumulatorBy : List ℕ → ℕ → ℕ
+accumulatorBy b i =
+    let k = segmentOf (headerOf b) i in
+    accumulatorAfter b k (i - firstHopField (headerOf b) k)
+
+-- hop field i by B alone
+unfoldable pub byPath : List ℕ → ℕ → Meeting
+byPath b i = meeting b i (accumulatorBy b i)
+
+unfoldable pub exchanged : Meeting → Meeting
+exchanged x = record { field = x .field; accumulator = x .accumulator; entry = x .exit; exit = x .entry }
+
+-- THE PREMISES: "accepted standard paths with at most 64 hop fields, peering bits on none or on both of exactly two segments, reserved
+-- bits zero and pointers at the start"; "B is the path begun with, exactly its 4 + 8·I + 12·N bytes"
+
+pub record Begun (b : List ℕ) : Type 0 where
+  pub bytes : (i : ℕ) → getD b i 0 < 256
+  pub read : standardOf 1 b .answer ≡ Accepted
+  pub exact : length b ≡ pathLength (headerOf b)
+  pub few : hopFields b ≤ 64
+  pub peering : moves.peeringAllowed b (headerOf b) ≡ true
+  pub unreserved : headerOf b .reserved ≡ 0
+  pub info-start : headerOf b .«current_info_field» ≡ 0
+  pub hop-start : headerOf b .«current_hop_field» ≡ 0
+
+-- THE CLAIM
+
+-- "One from the first sender stands on B's hop field p, one from the other end on B's hop field N − 1 − p, its 12 bytes as in B. The
+-- accumulator met there is that hop field's by B; entry and exit interfaces are as in B outward, and exchanged on the way back."
+unfoldable pub meets : List ℕ → End → ℕ → Meeting
+meets b to p = byEnd to (exchanged (byPath b (hopFields b - 1 - p))) (byPath b p)
+
+pub record Stands (b : List ℕ) (q : Packet) : Type 0 where
+  -- its bytes are a path that is read, with B's number of hop fields
+  pub read : standardOf 1 (q .bytes) .answer ≡ Accepted
+  pub long : hopFields (q .bytes) ≡ hopFields b
+  -- "a packet's count is its hop pointer p"
+  pub counted : q .count ≡ pointer (q .bytes)
+  pub standing : met (q .bytes) ≡ meets b (q .to) (pointer (q .bytes))
+
+-- every element of a list
+unfoldable pub All : {A : Type 0} → (A → Type 0) → List A → Type 0
+All P [] = Unit {0}
+All P (a ∷ l) = P a × All P l
+
+-- "B walked to N − 1 and turned": the calls one after the other, the turn into a destination of B's length
+unfoldable pub reply : List ℕ → List ℕ
+reply b = reverse.reversed 1 (moves.walked 1 b (hopFields b - 1)) (replicate (length b) 0)
+
+-- whether the other end has taken an arrival
+unfoldable pub reached : List Packet → Bool
+reached [] = false
+reached (q ∷ taken) = byEnd (q .to) (reached taken) true
+
+pub record Claim (b : List ℕ) (s : State) : Type 0 where
+  -- "After every list"
+  pub standing : All (Stands b) (s .packets)
+  -- "and after each move inside a walk (what the walk leaves with that many moves as its limit)"
+  pub walking : (limit : ℕ) → All (λ q. Stands b (walked limit q)) (s .packets)
+  -- "Each arrival taken had count N − 1."
+  pub counts : All (λ q. q .count + 1 ≡ hopFields b) (s .taken)
+  -- "The first sender holds B"
+  pub first-end : s .first-holds ≡ some b
+  -- "the other end holds nothing until it takes an arrival, and from then on B walked to N − 1 and turned"
+  pub other-end : s .other-holds ≡ pick (reached (s .taken)) (some (reply b)) none
+
+-- "All this is a single claim about the list, and not one for each call."
+abbrev pub RoundTrip : Type 0
+RoundTrip = (b : List ℕ) → Begun b → (events : List Event) → Claim b (after (begin b) events)
+
+-- BESIDE THE CLAIM
+
+-- the trip: out and back, into destinations that the ends lend
+abbrev pub trip : List ℕ → List ℕ → List ℕ → List Event
+trip b there back =
+    sending first ∷ walk 0 (hopFields b - 1) ∷ arrival 0 there ∷ sending other ∷ walk 0 (hopFields b - 1) ∷ arrival 0 back ∷ []
+
+-- what is met on the way of n hop fields, in order of travel; and the same in opposite order
+unfoldable pub along : (ℕ → Meeting) → ℕ → List Meeting
+along at zero = []
+along at (suc n) = along at n ++ (at n ∷ [])
+
+unfoldable pub against : (ℕ → Meeting) → ℕ → List Meeting
+against at zero = []
+against at (suc n) = at n ∷ against at n

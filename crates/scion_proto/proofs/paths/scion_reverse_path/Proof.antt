@@ -1,0 +1,22 @@
+-- `scion_reverse_path` meets its contract: the library's reversal, its answer handed over.
+use mathlib.Core.Path.{ap, _∙_}
+use Rattle.scion_proto.specs.Paths.{pathAnswerOut}
+use borrow.Author.Needs.{needs}
+use Rattle.scion_proto.proofs.paths.scion_reverse_path.Statement.{statement}
+use Rattle.scion_proto.proofs.paths.scion_reverse_path.Tie as tie
+
+reverse-to-slice-requires : tie.Need-reverse-to-slice-requires
+reverse-to-slice-requires c κs = search needs
+
+path-answer-out-requires : tie.Need-path-answer-out-requires
+path-answer-out-requires c κs = search needs
+
+same-length : tie.Need-same-length
+same-length c = search needs
+
+returns : tie.Need-returns
+returns c = let done = c .before .before .before .reverse-to-slice .ensures in (c .path-answer-out .ensures ∙ ap pathAnswerOut (done .0), done .1)
+
+pub scion-reverse-path-spec : {M : Type 1} → statement M
+scion-reverse-path-spec =
+    tie.close (tie.spec reverse-to-slice-requires path-answer-out-requires same-length returns)

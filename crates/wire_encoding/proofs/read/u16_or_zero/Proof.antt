@@ -1,0 +1,25 @@
+-- `u16_or_zero` meets its contract: each answer of the reader stands for its number, a refusal for 0.
+use mathlib.Core.Path.{ap}
+use borrow.Author.Needs.{needs}
+use Rattle.wire_encoding.specs.Choice.{orZero}
+use Rattle.wire_encoding.proofs.read.u16_or_zero.Statement.{statement}
+use Rattle.wire_encoding.proofs.read.u16_or_zero.Tie as tie
+
+get-u16-requires : tie.Need-get-u16-requires
+get-u16-requires c κs = search needs
+
+enum-known-number : tie.Need-enum-known-number
+enum-known-number c = search needs
+
+enum-told : tie.Need-enum-told
+enum-told c = search needs
+
+returns : tie.Need-returns
+returns c = ap orZero (rw (c .before .number .given .1) at (c .before .before .before .get-u16 .ensures))
+
+returns-2 : tie.Need-returns-2
+returns-2 c = ap orZero (rw (c .enum-told .given .1) at (c .before .before .get-u16 .ensures))
+
+pub u16-or-zero-spec : {M : Type 1} → statement M
+u16-or-zero-spec =
+    tie.close (tie.spec get-u16-requires enum-known-number enum-told returns returns-2)
