@@ -1,0 +1,336 @@
+//! The library's types, laid out as in `scion_proto.h`, which the checks at the end hold them to.
+
+use core::fmt;
+use core::mem::{offset_of, size_of};
+
+/// The type byte of an empty path.
+pub const PATH_EMPTY: u8 = 0;
+/// The type byte of a standard path; every other is an opaque one.
+pub const PATH_STANDARD: u8 = 1;
+/// The kind of an IPv4 host.
+pub const HOST_IPV4: u8 = 0;
+/// The kind of an IPv6 host.
+pub const HOST_IPV6: u8 = 3;
+/// The kind of a service.
+pub const HOST_SERVICE: u8 = 4;
+
+/// An answer: 0, or a refusal's number with its value.
+#[repr(C)]
+#[derive(Debug, Clone, Copy, PartialEq, Eq, Default)]
+pub struct Answer {
+    pub number: u8,
+    pub value: u8,
+}
+
+/// Why a call was refused: 1 to 15, with the version (2) or the factor (3) as its value.
+#[derive(Debug, Clone, Copy, PartialEq, Eq)]
+pub struct Refusal {
+    pub number: u8,
+    pub value: u8,
+}
+
+impl fmt::Display for Refusal {
+    fn fmt(&self, f: &mut fmt::Formatter<'_>) -> fmt::Result {
+        let words = match self.number {
+            1 => "cut short",
+            2 => "version",
+            3 => "header length factor",
+            4 => "segment lengths",
+            5 => "info pointer",
+            6 => "hop pointer",
+            7 => "left-over path bytes",
+            8 => "no such field or interface",
+            9 => "destination not of the exact size",
+            10 => "a number too wide",
+            11 => "payload too large",
+            12 => "header too large",
+            13 => "too many hop fields",
+            14 => "peering",
+            15 => "at the last hop field",
+            _ => "unknown",
+        };
+        write!(f, "refused with {} ({words}), value {}", self.number, self.value)
+    }
+}
+
+impl std::error::Error for Refusal {}
+
+/// The record of a standard path; all zero for other types.
+#[repr(C)]
+#[derive(Debug, Clone, Copy, PartialEq, Eq, Default)]
+pub struct Path {
+    pub current_info_field: u8,
+    pub current_hop_field: u8,
+    pub reserved: u8,
+    pub segment_lengths: [u8; 3],
+}
+
+/// A part of the caller's bytes.
+#[repr(C)]
+#[derive(Debug, Clone, Copy, PartialEq, Eq, Default)]
+pub struct Part {
+    pub start: usize,
+    pub len: usize,
+}
+
+impl Part {
+    /// The part of the bytes that it was found in.
+    pub fn of<'a>(&self, bytes: &'a [u8]) -> &'a [u8] {
+        &bytes[self.start..self.start + self.len]
+    }
+}
+
+/// A host: a service's number, or the first bytes of `bytes`, the others zero.
+#[repr(C)]
+#[derive(Debug, Clone, Copy, PartialEq, Eq, Default)]
+pub struct Host {
+    pub kind: u8,
+    pub service: u16,
+    pub bytes: [u8; 16],
+}
+
+/// The networks and the hosts at the two ends of a packet.
+#[derive(Debug, Clone, Copy, PartialEq, Eq, Default)]
+pub struct Ends {
+    pub destination_ia: u64,
+    pub destination: Host,
+    pub source_ia: u64,
+    pub source: Host,
+}
+
+/// An answer with the path's record.
+#[repr(C)]
+#[derive(Debug, Clone, Copy, PartialEq, Eq, Default)]
+pub struct PathAnswer {
+    pub answer: Answer,
+    pub path: Path,
+}
+
+/// A path that was read.
+#[repr(C)]
+#[derive(Debug, Clone, Copy, PartialEq, Eq, Default)]
+pub struct PathRead {
+    pub answer: Answer,
+    pub path: Path,
+    pub length: usize,
+}
+
+/// An info field and where it starts.
+#[repr(C)]
+#[derive(Debug, Clone, Copy, PartialEq, Eq, Default)]
+pub struct InfoField {
+    pub answer: Answer,
+    pub path: Path,
+    pub start: usize,
+    pub flags: u8,
+    pub reserved: u8,
+    pub accumulator: u16,
+    pub timestamp: u32,
+}
+
+impl InfoField {
+    /// Whether its hop fields stand in construction direction.
+    pub fn is_constructed_dir(&self) -> bool {
+        self.flags & 1 != 0
+    }
+
+    /// Whether its segment ends or begins at a peering link.
+    pub fn is_peering(&self) -> bool {
+        self.flags & 2 != 0
+    }
+}
+
+/// A hop field and where it starts.
+#[repr(C)]
+#[derive(Debug, Clone, Copy, PartialEq, Eq, Default)]
+pub struct HopField {
+    pub answer: Answer,
+    pub path: Path,
+    pub start: usize,
+    pub flags: u8,
+    pub exp_time: u8,
+    pub cons_ingress: u16,
+    pub cons_egress: u16,
+    pub mac: [u8; 6],
+}
+
+impl HopField {
+    /// Whether its ingress alert flag is set.
+    pub fn is_cons_ingress_router_alert(&self) -> bool {
+        self.flags & 2 != 0
+    }
+
+    /// Whether its egress alert flag is set.
+    pub fn is_cons_egress_router_alert(&self) -> bool {
+        self.flags & 1 != 0
+    }
+}
+
+/// Where a segment's fields lie.
+#[repr(C)]
+#[derive(Debug, Clone, Copy, PartialEq, Eq, Default)]
+pub struct Segment {
+    pub answer: Answer,
+    pub path: Path,
+    pub info_field: Part,
+    pub hop_fields: Part,
+}
+
+/// An expiry in ms since 1970.
+#[repr(C)]
+#[derive(Debug, Clone, Copy, PartialEq, Eq, Default)]
+pub struct Expiry {
+    pub answer: Answer,
+    pub path: Path,
+    pub ms: u64,
+}
+
+/// Expiry less now, in ms; below zero once the path has expired.
+#[repr(C)]
+#[derive(Debug, Clone, Copy, PartialEq, Eq, Default)]
+pub struct TimeLeft {
+    pub answer: Answer,
+    pub path: Path,
+    pub ms: i64,
+}
+
+/// How many interfaces a path has.
+#[repr(C)]
+#[derive(Debug, Clone, Copy, PartialEq, Eq, Default)]
+pub struct InterfaceCount {
+    pub answer: Answer,
+    pub path: Path,
+    pub count: usize,
+}
+
+/// An interface, 0 for none, and the hop field that it belongs to.
+#[repr(C)]
+#[derive(Debug, Clone, Copy, PartialEq, Eq, Default)]
+pub struct Interface {
+    pub answer: Answer,
+    pub path: Path,
+    pub hop_field: usize,
+    pub interface: u16,
+}
+
+/// How many moves a walk made, and whether it stands at the last hop field: 1 or 0.
+#[repr(C)]
+#[derive(Debug, Clone, Copy, PartialEq, Eq, Default)]
+pub struct Walk {
+    pub answer: Answer,
+    pub path: Path,
+    pub moves: usize,
+    pub arrived: u8,
+}
+
+/// A packet that was split.
+#[repr(C)]
+#[derive(Debug, Clone, Copy, PartialEq, Eq, Default)]
+pub struct Packet {
+    pub answer: Answer,
+    pub path: Path,
+    pub version: u8,
+    pub traffic_class: u8,
+    pub next_header: u8,
+    pub header_length_factor: u8,
+    pub path_type: u8,
+    pub payload_length: u16,
+    pub reserved: u16,
+    pub flow_id: u32,
+    pub destination_ia: u64,
+    pub source_ia: u64,
+    pub destination: Host,
+    pub source: Host,
+    pub path_part: Part,
+    pub payload_part: Part,
+}
+
+/// Headers to be written.
+#[repr(C)]
+#[derive(Debug, Clone, Copy, PartialEq, Eq, Default)]
+pub struct Headers {
+    pub version: u8,
+    pub traffic_class: u8,
+    pub next_header: u8,
+    pub path_type: u8,
+    pub reserved: u16,
+    pub flow_id: u32,
+    pub header_length_factor: usize,
+    pub payload_length: usize,
+    pub destination_ia: u64,
+    pub source_ia: u64,
+    pub destination: Host,
+    pub source: Host,
+}
+
+/// A type that begins with an answer.
+pub trait Answered: Sized {
+    /// The answer.
+    fn answer(&self) -> Answer;
+
+    /// The value, or why there is none.
+    fn result(self) -> Result<Self, Refusal> {
+        match self.answer() {
+            Answer { number: 0, .. } => Ok(self),
+            Answer { number, value } => Err(Refusal { number, value }),
+        }
+    }
+}
+
+impl Answered for Answer {
+    fn answer(&self) -> Answer {
+        *self
+    }
+}
+
+macro_rules! answered {
+    ($($name:ident)*) => {
+        $(impl Answered for $name {
+            fn answer(&self) -> Answer {
+                self.answer
+            }
+        })*
+    };
+}
+
+answered! {
+    PathAnswer PathRead InfoField HopField Segment Expiry TimeLeft InterfaceCount Interface Walk Packet
+}
+
+/// Checks a type's size and where its fields start, when the crate is built.
+macro_rules! laid_out {
+    ($name:ident: $size:literal { $($field:ident @ $offset:literal)* }) => {
+        const _: () = {
+            assert!(size_of::<$name>() == $size);
+            $(assert!(offset_of!($name, $field) == $offset);)*
+        };
+    };
+}
+
+laid_out!(Answer: 2 { number @ 0 value @ 1 });
+laid_out!(Path: 6 { current_info_field @ 0 current_hop_field @ 1 reserved @ 2 segment_lengths @ 3 });
+laid_out!(Part: 16 { start @ 0 len @ 8 });
+laid_out!(Host: 20 { kind @ 0 service @ 2 bytes @ 4 });
+laid_out!(PathAnswer: 8 { answer @ 0 path @ 2 });
+laid_out!(PathRead: 16 { answer @ 0 path @ 2 length @ 8 });
+laid_out!(InfoField: 24 {
+    answer @ 0 path @ 2 start @ 8 flags @ 16 reserved @ 17 accumulator @ 18 timestamp @ 20
+});
+laid_out!(HopField: 32 {
+    answer @ 0 path @ 2 start @ 8 flags @ 16 exp_time @ 17 cons_ingress @ 18 cons_egress @ 20 mac @ 22
+});
+laid_out!(Segment: 40 { answer @ 0 path @ 2 info_field @ 8 hop_fields @ 24 });
+laid_out!(Expiry: 16 { answer @ 0 path @ 2 ms @ 8 });
+laid_out!(TimeLeft: 16 { answer @ 0 path @ 2 ms @ 8 });
+laid_out!(InterfaceCount: 16 { answer @ 0 path @ 2 count @ 8 });
+laid_out!(Interface: 24 { answer @ 0 path @ 2 hop_field @ 8 interface @ 16 });
+laid_out!(Walk: 24 { answer @ 0 path @ 2 moves @ 8 arrived @ 16 });
+laid_out!(Packet: 112 {
+    answer @ 0 path @ 2 version @ 8 traffic_class @ 9 next_header @ 10 header_length_factor @ 11 path_type @ 12
+    payload_length @ 14 reserved @ 16 flow_id @ 20 destination_ia @ 24 source_ia @ 32 destination @ 40 source @ 60
+    path_part @ 80 payload_part @ 96
+});
+laid_out!(Headers: 88 {
+    version @ 0 traffic_class @ 1 next_header @ 2 path_type @ 3 reserved @ 4 flow_id @ 8 header_length_factor @ 16
+    payload_length @ 24 destination_ia @ 32 source_ia @ 40 destination @ 48 source @ 68
+});

@@ -1,0 +1,106 @@
+//! Calls as lines of text, answered by the Rust: the format of the program that executes calls from its input.
+//!
+//! A line is a call's name and its words with single spaces between: numbers in decimal, byte strings as pairs of
+//! hexadecimal digits, `-` where empty, `+N` after the digits for N zero bytes. The answer follows ` => `.
+
+mod fields;
+mod packets;
+mod paths;
+
+/// The words of a line, and the answer that is made of them.
+pub struct Line<'a> {
+    words: Vec<&'a str>,
+    answer: String,
+}
+
+impl<'a> Line<'a> {
+    /// Splits a line.
+    fn new(line: &'a str) -> Self {
+        Self { words: line.split(' ').collect(), answer: String::new() }
+    }
+
+    /// Word `k` as a number; 0 where there is none.
+    fn number(&self, k: usize) -> u64 {
+        self.words.get(k).map_or(0, |word| word.parse().expect("a number"))
+    }
+
+    /// Word `k` as a byte.
+    fn byte(&self, k: usize) -> u8 {
+        u8::try_from(self.number(k)).expect("a byte")
+    }
+
+    /// Word `k` as an index.
+    fn index(&self, k: usize) -> usize {
+        self.number(k) as usize
+    }
+
+    /// Word `k` as a flag.
+    fn flag(&self, k: usize) -> bool {
+        self.number(k) == 1
+    }
+
+    /// Word `k` as bytes.
+    fn bytes(&self, k: usize) -> Vec<u8> {
+        parse_bytes(self.words[k])
+    }
+
+    /// Adds a number to the answer.
+    fn add(&mut self, number: impl ToString) -> &mut Self {
+        self.answer.push(' ');
+        self.answer.push_str(&number.to_string());
+        self
+    }
+
+    /// Adds a flag to the answer.
+    fn add_flag(&mut self, on: bool) -> &mut Self {
+        self.add(u8::from(on))
+    }
+
+    /// Adds bytes to the answer.
+    fn add_bytes(&mut self, bytes: &[u8]) -> &mut Self {
+        self.add(crate::tally::hex(bytes))
+    }
+}
+
+/// The bytes that a word spells.
+pub fn parse_bytes(word: &str) -> Vec<u8> {
+    let (digits, zeros) = word.split_once('+').unwrap_or((word, "0"));
+    let mut bytes = Vec::new();
+    if digits != "-" {
+        let pairs = digits.as_bytes().chunks(2).map(|pair| std::str::from_utf8(pair).expect("digits"));
+        bytes.extend(pairs.map(|pair| u8::from_str_radix(pair, 16).expect("two digits")));
+    }
+    bytes.resize(bytes.len() + zeros.parse::<usize>().expect("a number"), 0);
+    bytes
+}
+
+/// The Rust's answer to a call, as text; none where it is no call or one that the Rust can't be asked.
+pub fn answer(text: &str) -> Option<String> {
+    let mut line = Line::new(text);
+    let is_known = paths::answer(&mut line) || fields::answer(&mut line) || packets::answer(&mut line);
+    is_known.then_some(line.answer)
+}
+
+/// Compares the answers in a file of lines with the Rust's: how many agree, differ, and can't be asked.
+/// A line with the answer `?` is no call.
+pub fn replay(text: &str) -> (usize, usize, usize) {
+    let (mut same, mut other, mut unasked) = (0, 0, 0);
+    for line in text.lines() {
+        let Some((call, stored)) = line.split_once(" =>") else { continue };
+        if stored == " ?" {
+            continue;
+        }
+        match answer(call) {
+            Some(answer) if answer == stored => same += 1,
+            Some(answer) => {
+                other += 1;
+                println!("DIFFERS {call}\n    stored  {stored}\n    by Rust {answer}");
+            }
+            None => {
+                unasked += 1;
+                println!("not asked: {line}");
+            }
+        }
+    }
+    (same, other, unasked)
+}

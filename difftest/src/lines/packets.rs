@@ -1,0 +1,156 @@
+//! Lines on packets and header writing.
+
+use scion_proto::{Answer, Ends, Headers, Host};
+
+use super::Line;
+use super::paths::add_record;
+use crate::oracle::{headers, packet, write};
+
+/// Adds a host: kind, service number, all 16 bytes.
+fn add_host(line: &mut Line, host: &Host) {
+    line.add(host.kind).add(host.service).add_bytes(&host.bytes);
+}
+
+/// The host in words k to k + 2: kind, service number, at most 16 bytes.
+fn host_at(line: &Line, k: usize) -> Host {
+    let mut host = Host { kind: line.byte(k), service: line.number(k + 1) as u16, ..Host::default() };
+    let bytes = line.bytes(k + 2);
+    host.bytes[..bytes.len()].copy_from_slice(&bytes);
+    host
+}
+
+/// The ends in eight words from word k on: both networks, then both hosts, the destination first.
+fn ends_at(line: &Line, k: usize) -> Ends {
+    Ends {
+        destination_ia: line.number(k),
+        source_ia: line.number(k + 1),
+        destination: host_at(line, k + 2),
+        source: host_at(line, k + 5),
+    }
+}
+
+/// Adds both networks and both hosts.
+fn add_ends(line: &mut Line, ends: &Ends) {
+    line.add(ends.destination_ia).add(ends.source_ia);
+    add_host(line, &ends.destination);
+    add_host(line, &ends.source);
+}
+
+/// `packet B`: number, value, common header, networks, hosts, record, and path and payload, each with where it starts.
+fn read(line: &mut Line) {
+    let bytes = line.bytes(1);
+    let packet = packet::read_packet(&bytes);
+    line.add(packet.answer.number).add(packet.answer.value);
+    line.add(packet.version).add(packet.traffic_class).add(packet.flow_id).add(packet.next_header);
+    line.add(packet.header_length_factor).add(packet.payload_length).add(packet.path_type);
+    line.add(packet.destination.kind).add(packet.source.kind).add(packet.reserved);
+    line.add(packet.destination_ia).add(packet.source_ia);
+    add_host(line, &packet.destination);
+    add_host(line, &packet.source);
+    add_record(line, packet.path);
+    for part in [packet.path_part, packet.payload_part] {
+        line.add(part.start).add_bytes(&bytes[part.start..part.start + part.len]);
+    }
+}
+
+/// `new next payload flow type E P D`: the factor of headers made for ends E and path bytes P, and the headers written to D.
+fn new(line: &mut Line) {
+    let (ends, path, mut dst) = (ends_at(line, 5), line.bytes(13), line.bytes(14));
+    let made = write::new_headers(&ends, line.byte(4), &path, line.byte(1), line.index(2), line.number(3) as u32);
+    let (answer, _) = write::write_headers(&made, &path, &mut dst);
+    line.add(made.header_length_factor).add(answer.number).add_bytes(&dst);
+}
+
+/// `write version class flow next factor payload type reserved E P D`: the length of headers, and the headers written to D.
+fn write_headers(line: &mut Line) {
+    let ends = ends_at(line, 9);
+    let headers = Headers {
+        version: line.byte(1),
+        traffic_class: line.byte(2),
+        flow_id: line.number(3) as u32,
+        next_header: line.byte(4),
+        header_length_factor: line.index(5),
+        payload_length: line.index(6),
+        path_type: line.byte(7),
+        reserved: line.number(8) as u16,
+        destination_ia: ends.destination_ia,
+        destination: ends.destination,
+        source_ia: ends.source_ia,
+        source: ends.source,
+    };
+    let (path, mut dst) = (line.bytes(17), line.bytes(18));
+    let (answer, _) = write::write_headers(&headers, &path, &mut dst);
+    line.add(write::headers_length(&headers, &path)).add(answer.number).add_bytes(&dst);
+}
+
+/// Adds a number, a value, and a common header's fields.
+fn add_common(line: &mut Line, answer: Answer, fields: headers::Common) {
+    line.add(answer.number).add(answer.value);
+    line.add(fields.version).add(fields.traffic_class).add(fields.flow_id).add(fields.next_header);
+    line.add(fields.header_length_factor).add(fields.payload_length).add(fields.path_type);
+    line.add(fields.destination_kind).add(fields.source_kind).add(fields.reserved);
+}
+
+/// `common B`: the fields of a common header, and the lengths of all headers, of those after it, and of the payload.
+fn common(line: &mut Line) {
+    let bytes = line.bytes(1);
+    let (answer, fields) = headers::read_common(&bytes);
+    add_common(line, answer, fields);
+    for length in headers::lengths(&bytes) {
+        line.add(length);
+    }
+}
+
+/// `putcommon version class flow next factor payload type K L reserved D`: a common header written to D.
+fn put_common(line: &mut Line) {
+    let fields = headers::Common {
+        version: line.byte(1),
+        traffic_class: line.byte(2),
+        flow_id: line.number(3) as u32,
+        next_header: line.byte(4),
+        header_length_factor: line.index(5),
+        payload_length: line.index(6),
+        path_type: line.byte(7),
+        destination_kind: line.byte(8),
+        source_kind: line.byte(9),
+        reserved: line.number(10) as u16,
+    };
+    let mut dst = line.bytes(11);
+    let answer = headers::write_common(&fields, &mut dst);
+    line.add(answer.number).add_bytes(&dst);
+}
+
+/// `address K L B`: the networks and hosts of kinds K and L, how many bytes they take, and whether each host has a name.
+fn address(line: &mut Line) {
+    let (bytes, kinds) = (line.bytes(3), (line.byte(1), line.byte(2)));
+    let (answer, ends, length) = headers::read_address(&bytes, kinds.0, kinds.1);
+    line.add(answer.number).add(answer.value);
+    add_ends(line, &ends);
+    line.add(length);
+    for known in headers::are_known(&bytes, kinds.0, kinds.1) {
+        line.add_flag(known);
+    }
+}
+
+/// `putaddress E D`: networks and hosts written to D.
+fn put_address(line: &mut Line) {
+    let (ends, mut dst) = (ends_at(line, 1), line.bytes(9));
+    let answer = headers::write_address(&ends, &mut dst);
+    line.add(answer.number).add_bytes(&dst);
+}
+
+/// Answers a line of this file; whether it is one.
+pub fn answer(line: &mut Line) -> bool {
+    match line.words[0] {
+        "packet" => read(line),
+        "common" => common(line),
+        "putcommon" => put_common(line),
+        // The Rust has no host kinds of more than 4 bits.
+        "address" if line.number(1) < 16 && line.number(2) < 16 => address(line),
+        "putaddress" => put_address(line),
+        "new" => new(line),
+        "write" => write_headers(line),
+        _ => return false,
+    }
+    true
+}

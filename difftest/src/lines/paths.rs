@@ -1,0 +1,145 @@
+//! Lines on paths: word 1 is the type, word 2 the bytes.
+
+use scion_proto::{Answer, Part, Path};
+
+use super::Line;
+use crate::model;
+use crate::oracle::path::Oracle;
+
+/// Adds a number and a value.
+fn add_answer(line: &mut Line, answer: Answer) {
+    line.add(answer.number).add(answer.value);
+}
+
+/// Adds a record's fields.
+pub fn add_record(line: &mut Line, path: Path) {
+    line.add(path.current_info_field).add(path.current_hop_field).add(path.reserved);
+    for length in path.segment_lengths {
+        line.add(length);
+    }
+}
+
+/// Adds a part.
+fn add_part(line: &mut Line, part: Part) {
+    line.add(part.start).add(part.len);
+}
+
+/// Adds where a field lies, and its bytes; none where there is none.
+fn add_located(line: &mut Line, answer: Answer, start: usize, length: usize, bytes: &[u8]) {
+    let part = if answer.number == 0 { Part { start, len: length } } else { Part::default() };
+    add_answer(line, answer);
+    add_part(line, part);
+    line.add_bytes(part.of(bytes));
+}
+
+/// Reading and views.
+fn view(line: &mut Line, name: &str, oracle: &Oracle, bytes: &[u8]) -> bool {
+    match name {
+        "path" => {
+            let read = oracle.read_path();
+            add_answer(line, read.answer);
+            line.add(read.length);
+            add_record(line, read.path);
+        }
+        "locinfo" => {
+            let field = oracle.info_field(line.index(3));
+            add_located(line, field.answer, field.start, 8, bytes);
+        }
+        "lochop" => {
+            let field = oracle.hop_field(line.index(3));
+            add_located(line, field.answer, field.start, 12, bytes);
+        }
+        "segment" => {
+            let segment = oracle.segment(line.index(3));
+            add_answer(line, segment.answer);
+            add_part(line, segment.info_field);
+            add_part(line, segment.hop_fields);
+        }
+        _ => return false,
+    }
+    true
+}
+
+/// Times and interfaces.
+fn times(line: &mut Line, name: &str, oracle: &Oracle) -> bool {
+    match name {
+        "segexp" => {
+            let expiry = oracle.segment_expiry(line.index(3));
+            add_answer(line, expiry.answer);
+            line.add(expiry.ms);
+        }
+        "pathexp" => {
+            add_answer(line, oracle.expiry().answer);
+            line.add(oracle.expiry().ms);
+        }
+        "left" => {
+            let left = oracle.time_left(line.number(3));
+            add_answer(line, left.answer);
+            line.add(left.ms);
+        }
+        "ifcount" => {
+            add_answer(line, oracle.interfaces_count().answer);
+            line.add(oracle.interfaces_count().count);
+        }
+        "iface" => {
+            let (interface, _) = oracle.interface(line.index(3));
+            add_answer(line, interface.answer);
+            line.add(interface.hop_field).add(interface.interface);
+        }
+        _ => return false,
+    }
+    true
+}
+
+/// Calls that change the bytes.
+fn change(line: &mut Line, name: &str, oracle: &Oracle, mut bytes: Vec<u8>) -> bool {
+    match name {
+        "alert" => {
+            let (is_ingress, on) = (line.flag(4), line.flag(5));
+            let answer = oracle.set_alert(line.index(3), is_ingress, on, &mut bytes).answer;
+            add_answer(line, answer);
+        }
+        "move" => add_answer(line, model::single_move(oracle, &mut bytes).answer),
+        "walk" => {
+            let walk = model::walk(oracle, &mut bytes, line.index(3));
+            add_answer(line, walk.answer);
+            line.add(walk.moves).add(walk.arrived);
+        }
+        _ => return false,
+    }
+    line.add_bytes(&bytes);
+    true
+}
+
+/// Calls that write to a destination, word 3.
+fn write(line: &mut Line, name: &str, oracle: &Oracle) -> bool {
+    let answer = match name {
+        "copy" => |oracle: &Oracle, dst: &mut [u8]| oracle.copy_path(dst).0.answer,
+        "turn" => |oracle: &Oracle, dst: &mut [u8]| oracle.reverse_path(dst).0.answer,
+        _ => return false,
+    };
+    let mut dst = line.bytes(3);
+    let answer = answer(oracle, &mut dst);
+    add_answer(line, answer);
+    line.add_bytes(&dst);
+    true
+}
+
+const NAMES: [&str; 14] = [
+    "path", "locinfo", "lochop", "segment", "segexp", "pathexp", "left", "ifcount", "iface", "alert", "move", "walk",
+    "copy", "turn",
+];
+
+/// Answers a line of this file; whether it is one.
+pub fn answer(line: &mut Line) -> bool {
+    let name = line.words[0].to_string();
+    if !NAMES.contains(&name.as_str()) {
+        return false;
+    }
+    let bytes = line.bytes(2);
+    let oracle = Oracle::new(line.byte(1), &bytes);
+    view(line, &name, &oracle, &bytes)
+        || times(line, &name, &oracle)
+        || change(line, &name, &oracle, bytes.clone())
+        || write(line, &name, &oracle)
+}

@@ -1,0 +1,556 @@
+//! A stored list of calls and the Rust's answers, to be replayed by another program. It comes out the same each time.
+
+use std::fs;
+use std::path::Path;
+
+use crate::lines;
+use crate::random::Random;
+use crate::shapes::{self, Lengths, PacketParts, Pointers};
+use crate::tally::hex;
+
+/// The most bytes of a file.
+const MOST: usize = 60_000;
+
+/// Lines for one subject, with comments between.
+struct Subject {
+    name: &'static str,
+    lines: Vec<String>,
+}
+
+impl Subject {
+    fn new(name: &'static str) -> Self {
+        Self { name, lines: Vec::new() }
+    }
+
+    /// A comment before the calls that follow.
+    fn note(&mut self, words: &str) {
+        self.lines.push(format!("# {words}"));
+    }
+
+    /// A call with its answer.
+    fn call(&mut self, call: String) {
+        let answer = lines::answer(&call).unwrap_or_else(|| panic!("the Rust can't be asked: {call}"));
+        self.lines.push(format!("{call} =>{answer}"));
+    }
+}
+
+/// Bytes as a word, many zero bytes at the end as a count.
+fn word(bytes: &[u8]) -> String {
+    let zeros = bytes.iter().rev().take_while(|byte| **byte == 0).count();
+    if zeros < 8 || zeros == bytes.len() {
+        return hex(bytes);
+    }
+    format!("{}+{zeros}", hex(&bytes[..bytes.len() - zeros]))
+}
+
+/// A sample path: fields told apart by their numbers, direction and peering as given in two bits each.
+fn sample(lengths: Lengths, bits: usize, hop_pointer: usize, reserved: usize) -> Vec<u8> {
+    let shape = shapes::shape(lengths);
+    let mut bytes = vec![0; shape.bytes()];
+    bytes[..4].copy_from_slice(&shapes::meta(shape.segment_of(hop_pointer), hop_pointer, reserved, lengths));
+    for k in 0..shape.info_fields {
+        let k8 = k as u8 + 1;
+        let info = [(bits >> (2 * k)) as u8 & 3, 0, 0x11 * k8, 0x11 * k8, 0, 0, k8, 1];
+        bytes[shape.info_at(k)..][..8].copy_from_slice(&info);
+    }
+    for h in 0..shape.hop_fields {
+        let j = h as u8;
+        let id = |number: usize| (number as u16).to_be_bytes();
+        let ([a, b], [c, d]) = (id(2 * h + 1), id(2 * h + 2));
+        let code = [0xa0, 0x0b, 0x10, 0x20, 0x30, 0x40].map(|byte: u8| byte.wrapping_add(j));
+        bytes[shape.hop_at(h)..][..6].copy_from_slice(&[0, 7 * j % 5, a, b, c, d]);
+        bytes[shape.hop_at(h) + 6..][..6].copy_from_slice(&code);
+    }
+    bytes
+}
+
+/// Meta headers: every answer, every first byte, headers written, interfaces, offsets.
+fn meta(random: &mut Random) -> Subject {
+    let mut subject = Subject::new("meta");
+    subject.note("Meta headers under 4 bytes, at each border, and any.");
+    for length in 0..4 {
+        subject.call(format!("meta {}", hex(&[0xc0, 0xff, 0x20][..length])));
+    }
+    for first in 0..=255u8 {
+        for rest in ["002000", "002040", "001041", "03f040"] {
+            if first % 64 < 4 || first % 64 == 63 {
+                subject.call(format!("meta {first:02x}{rest}"));
+            }
+        }
+    }
+    for _ in 0..150 {
+        let number = random.next() as u32;
+        let lengths = shapes::lengths(random);
+        let near = u32::from_be_bytes(shapes::meta(random.below(4), random.below(8), random.below(64), lengths));
+        subject.call(format!("meta {number:08x}"));
+        subject.call(format!("meta {near:08x}"));
+    }
+    subject.note("The number for every first byte.");
+    for rest in ["002000", "002040", "001041", "020820", "03f040", "000000", "002001"] {
+        subject.call(format!("firsts 00{rest}"));
+    }
+    written_meta(random, &mut subject);
+    placed(random, &mut subject);
+    subject
+}
+
+/// Headers written, too wide ones and wrong destinations among them.
+fn written_meta(random: &mut Random, subject: &mut Subject) {
+    subject.note("Headers written: 10 where a number is too wide, 9 where the destination is not of 4 bytes.");
+    for place in 0..6 {
+        for number in [0, 1, 3, 4, 63, 64, 255] {
+            let mut numbers = [1, 1, 9, 1, 1, 1];
+            numbers[place] = number;
+            let words: Vec<String> = numbers.iter().map(u8::to_string).collect();
+            subject.call(format!("encode {} eeeeeeee", words.join(" ")));
+        }
+    }
+    for dst in ["-", "ee", "eeeeee", "eeeeeeeeee", "eeeeeeeeeeeeeeee"] {
+        subject.call(format!("encode 1 1 9 1 1 1 {dst}"));
+        subject.call(format!("encode 4 1 9 1 1 1 {dst}"));
+    }
+    subject.note("What headers count.");
+    for _ in 0..60 {
+        let lengths = shapes::lengths(random);
+        let hop = random.below(lengths.iter().sum::<usize>().min(64));
+        let [a, b, c] = lengths;
+        subject.call(format!(
+            "counts {} {hop} {} {a} {b} {c}",
+            shapes::shape(lengths).segment_of(hop),
+            random.below(64)
+        ));
+    }
+}
+
+/// Interfaces and offsets of lengths.
+fn placed(random: &mut Random, subject: &mut Subject) {
+    subject.note("The hop field of each interface, and beyond the count 8, where document 01 decides.");
+    for [a, b, c] in [[1, 0, 0], [3, 0, 0], [2, 2, 0], [1, 2, 0], [3, 1, 3], [1, 1, 1], [3, 2, 2]] {
+        for index in 0..2 * (a + b + c) {
+            subject.call(format!("ifhop {a} {b} {c} {index}"));
+        }
+    }
+    for _ in 0..60 {
+        let [a, b, c] = shapes::lengths(random);
+        let index = random.below(2 * (a + b + c) + 2);
+        subject.call(format!("ifhop {a} {b} {c} {index}"));
+        subject.call(format!("ifhop {a} {b} {c} {}", random.pick(&crate::paths::FAR)));
+    }
+    subject.note("Where fields start, and 8 where there is none, where document 01 decides.");
+    for _ in 0..60 {
+        let [a, b, c] = shapes::lengths(random);
+        subject.call(format!("offset {a} {b} {c} {}", random.below(5)));
+        subject.call(format!("offset {a} {b} {c} {}", random.below(a + b + c + 2)));
+    }
+}
+
+/// Fields, flags, times, bounded numbers and addresses.
+fn fields(random: &mut Random) -> Subject {
+    let mut subject = Subject::new("fields");
+    subject.note("Info fields and hop fields; 9 where the part is of another size, at which the Rust panics.");
+    for length in [0, 1, 7, 8, 9, 11, 12, 13] {
+        subject.call(format!("info {}", hex(&random.bytes(length))));
+        subject.call(format!("hop {}", hex(&random.bytes(length))));
+    }
+    for _ in 0..80 {
+        subject.call(format!("info {}", hex(&random.bytes(8))));
+        subject.call(format!("hop {}", hex(&random.bytes(12))));
+        subject.call(format!("infodir {} {}", hex(&random.bytes(8)), random.below(2)));
+        subject.call(format!("hopflags {} {} {}", hex(&random.bytes(12)), random.below(2), random.below(2)));
+        subject.call(format!("sides {} {}", hex(&random.bytes(8)), hex(&random.bytes(12))));
+    }
+    subject.note("Every flag byte.");
+    for on in 0..2 {
+        for name in ["infobits", "infodirs", "hopbits"] {
+            subject.call(format!("{name} {on}"));
+        }
+        subject.call(format!("hopalerts {on} 0"));
+        subject.call(format!("hopalerts {on} 1"));
+    }
+    subject.note("Times.");
+    for time in [0, 1, 1000, 1_700_000_000, u32::MAX - 1, u32::MAX] {
+        for byte in [0, 1, 63, 254, 255] {
+            subject.call(format!("expiry {time} {byte}"));
+        }
+    }
+    values(random, &mut subject);
+    subject
+}
+
+/// Numbers on the wire, bounded numbers, networks, services and hosts.
+fn values(random: &mut Random, subject: &mut Subject) {
+    subject.note("Numbers read and written: 1 and 9 where the Rust panics for want of room.");
+    for width in [2, 4, 8] {
+        for length in 0..12 {
+            let bytes = hex(&random.bytes(length));
+            let at = random.below(length + 2);
+            subject.call(format!("get {width} {bytes} {at}"));
+            let most = if width == 8 { u64::MAX } else { (1 << (8 * width)) - 1 };
+            subject.call(format!("put {width} {bytes} {at} {}", random.next() & most));
+        }
+    }
+    subject.note("Bounded numbers.");
+    for (bits, most) in [(2, 3), (4, 15), (6, 63), (20, 1_048_575)] {
+        for number in [0, 1, most - 1, most, most + 1, 255] {
+            subject.call(format!("bounded {bits} {number}"));
+        }
+    }
+    subject.note("Network numbers, services, hosts.");
+    for _ in 0..20 {
+        subject.call(format!("isdasn {}", random.next()));
+        subject.call(format!("service {}", random.next() as u16));
+    }
+    for number in [0, 1, (1 << 48) - 1, 1 << 48, (1 << 48) + 1, u64::MAX] {
+        subject.call(format!("isdasn {number}"));
+    }
+    for byte in 0..8 {
+        subject.call(format!("hosttype {byte}"));
+        subject.call(format!("hostkind {byte}"));
+    }
+}
+
+/// Samples of every small shape, and of the borders.
+fn samples(random: &mut Random) -> Vec<Vec<u8>> {
+    let mut all = Vec::new();
+    for lengths in
+        [[1, 0, 0], [2, 0, 0], [3, 0, 0], [1, 1, 0], [2, 1, 0], [1, 2, 0], [2, 2, 0], [1, 1, 1], [1, 2, 1], [2, 1, 2]]
+    {
+        let count: usize = lengths.iter().sum();
+        let hop = random.below(count);
+        let bits = random.below(64) & if lengths[2] > 0 { 0b01_0101 } else { 0b1111 };
+        let reserved = random.pick(&[0, 0, 63, 42]);
+        all.push(sample(lengths, bits, hop, reserved));
+    }
+    all
+}
+
+/// Reading, views, times, interfaces, alert flags, copies and turns.
+fn paths(random: &mut Random) -> Subject {
+    let mut subject = Subject::new("paths");
+    subject.note("Reading: whole, one byte short, with bytes after it; every answer.");
+    for bytes in samples(random) {
+        let longer = [&bytes[..], &[0xee, 0xee]].concat();
+        for length in [bytes.len() - 1, bytes.len(), bytes.len() + 2] {
+            subject.call(format!("path 1 {}", word(&longer[..length])));
+        }
+    }
+    for [a, b, c] in shapes::BORDERS {
+        let bytes = sample_zeros([a, b, c]);
+        subject.call(format!("path 1 {}", word(&bytes)));
+        subject.call(format!("path 1 {}", word(&bytes[..bytes.len() - 1])));
+        subject.call(format!("ifcount 1 {}", word(&bytes)));
+    }
+    for path_type in [0, 1, 2, 3, 4, 5, 254, 255] {
+        for bytes in ["-", "00", "010203", "00001000+20", "00002001+44", "40002000+32", "02002000+32"] {
+            subject.call(format!("path {path_type} {bytes}"));
+        }
+    }
+    viewed(random, &mut subject);
+    subject
+}
+
+/// A path of lengths, zero but for its meta header.
+fn sample_zeros(lengths: Lengths) -> Vec<u8> {
+    let mut bytes = vec![0; shapes::shape(lengths).bytes()];
+    bytes[..4].copy_from_slice(&shapes::meta(0, 0, 0, lengths));
+    bytes
+}
+
+/// Views and the rest, on each sample with every index.
+fn viewed(random: &mut Random, subject: &mut Subject) {
+    subject.note("Views, times and interfaces with every index, and with ones that are not there.");
+    for bytes in samples(random) {
+        let count: usize = sample_hop_fields(&bytes);
+        let text = word(&bytes);
+        for index in [0, 1, 2, 3, 1 << 32, usize::MAX] {
+            for name in ["locinfo", "segment", "segexp"] {
+                subject.call(format!("{name} 1 {text} {index}"));
+            }
+        }
+        for index in (0..=count).chain([1 << 63, usize::MAX]) {
+            subject.call(format!("lochop 1 {text} {index}"));
+            subject.call(format!("iface 1 {text} {index}"));
+        }
+        subject.call(format!("pathexp 1 {text}"));
+        for now in [0, 1, 337_500, 9_000_000_000_000, 9_000_000_000_001, u64::MAX] {
+            subject.call(format!("left 1 {text} {now}"));
+        }
+    }
+    changed(random, subject);
+    subject.note("Other types get 8 straight after reading; unread paths get the reading's number.");
+    for (path_type, bytes) in
+        [(0, "-"), (2, "00001000+20"), (255, "-"), (1, "00002001+44"), (1, "40002000+32"), (1, "000020")]
+    {
+        for call in ["locinfo", "lochop", "segment", "segexp", "iface", "walk"] {
+            subject.call(format!("{call} {path_type} {bytes} {}", usize::MAX));
+        }
+        subject.call(format!("left {path_type} {bytes} {}", u64::MAX));
+        for call in ["pathexp", "ifcount", "move"] {
+            subject.call(format!("{call} {path_type} {bytes}"));
+        }
+        subject.call(format!("alert {path_type} {bytes} 9 1 1"));
+        subject.call(format!("copy {path_type} {bytes} eeee"));
+        subject.call(format!("turn {path_type} {bytes} eeee"));
+    }
+}
+
+/// How many hop fields a sample has.
+fn sample_hop_fields(bytes: &[u8]) -> usize {
+    let word = u32::from_be_bytes([bytes[0], bytes[1], bytes[2], bytes[3]]) as usize;
+    (word >> 12 & 63) + (word >> 6 & 63) + (word & 63)
+}
+
+/// Alert flags, copies and turns.
+fn changed(random: &mut Random, subject: &mut Subject) {
+    subject.note("Alert flags, copies and turns; a destination of another size, at which the Rust panics, gets 9.");
+    for bytes in samples(random) {
+        let count: usize = sample_hop_fields(&bytes);
+        let longer = word(&[&bytes[..], &[0xee]].concat());
+        for (flag, on) in [(0, 0), (0, 1), (1, 0), (1, 1)] {
+            subject.call(format!("alert 1 {longer} {} {flag} {on}", random.below(count)));
+        }
+        subject.call(format!("alert 1 {longer} {count} 1 1"));
+        for size in [bytes.len(), bytes.len() - 1, bytes.len() + 1, 0] {
+            let dst = word(&vec![0xee; size]);
+            subject.call(format!("copy 1 {longer} {dst}"));
+            subject.call(format!("turn 1 {longer} {dst}"));
+        }
+    }
+    for (path_type, size) in [(0, 0), (0, 5), (7, 2), (7, 3), (7, 4)] {
+        let dst = word(&vec![0xee; size]);
+        subject.call(format!("copy {path_type} 010203 {dst}"));
+        subject.call(format!("turn {path_type} 010203 {dst}"));
+    }
+}
+
+/// Moves and walks: by document 01, not by the Rust, which has none.
+fn moves() -> Subject {
+    let mut subject = Subject::new("moves");
+    subject.note("Moves and walks, by document 01's text: the Rust has none.");
+    for lengths in [[1, 0, 0], [2, 0, 0], [3, 0, 0], [1, 1, 0], [2, 1, 0], [3, 3, 0], [1, 1, 1], [2, 2, 2]] {
+        let shape = shapes::shape(lengths);
+        for bits in 0..1 << (2 * shape.info_fields) {
+            if lengths[2] > 0 && bits % 7 != 0 {
+                continue;
+            }
+            let hop = bits % shape.hop_fields;
+            let text = word(&sample(lengths, bits, hop, bits & 63));
+            subject.call(format!("move 1 {text}"));
+            subject.call(format!("walk 1 {text} {}", [0, 1, 2, usize::MAX][bits % 4]));
+        }
+    }
+    subject.note("At the last hop field a single move gets 15; 64 hop fields walk 63 moves, 65 get 13.");
+    for lengths in [[1, 0, 0], [2, 0, 0], [3, 2, 0], [1, 1, 1]] {
+        let last = lengths.iter().sum::<usize>() - 1;
+        let text = word(&sample(lengths, 0, last, 0));
+        subject.call(format!("move 1 {text}"));
+        subject.call(format!("walk 1 {text} 5"));
+    }
+    for lengths in [[32, 32, 0], [63, 1, 0], [63, 2, 0], [32, 32, 1], [63, 63, 63]] {
+        let text = word(&sample_zeros(lengths));
+        subject.call(format!("move 1 {text}"));
+        subject.call(format!("walk 1 {text} {}", usize::MAX));
+    }
+    subject
+}
+
+/// Packets of every answer.
+fn packets(random: &mut Random) -> Subject {
+    let mut subject = Subject::new("packets");
+    let k36 = "0000000111090000000000000001ff00000001100002ff0000000220d0d1d2d350515253";
+    subject.note("A smallest packet, cut at every byte.");
+    for length in 0..=36 {
+        subject.call(format!("packet {}", if length == 0 { "-" } else { &k36[..2 * length] }));
+    }
+    subject.note("Every version, factor and payload length beside the border.");
+    let base = lines::parse_bytes(k36);
+    for (place, values) in
+        [(0, [0x10, 0xf0, 0x0f, 0x20]), (5, [0, 8, 10, 255]), (7, [1, 2, 255, 0]), (8, [1, 2, 255, 4])]
+    {
+        for value in values {
+            for more in [0, 1, 2, 4] {
+                let mut bytes = [&base[..], &vec![0xdd; more]].concat();
+                bytes[place] = value;
+                subject.call(format!("packet {}", word(&bytes)));
+            }
+        }
+    }
+    subject.note("Every pair of host kinds, with an empty, a standard and an opaque path in turn.");
+    for kinds in 0..=255u8 {
+        let path_type = kinds % 3;
+        let path = match path_type {
+            0 => Vec::new(),
+            1 => sample([1, 0, 0], 1, 0, 0),
+            _ => vec![1, 2, 3, 4],
+        };
+        let bytes = shapes::packet_of(random, &PacketParts { kinds, path_type, path, payload: 1 });
+        subject.call(format!("packet {}", word(&bytes)));
+    }
+    subject.note("Any packets, and damaged ones.");
+    for _ in 0..120 {
+        let lengths = random.pick(&[[1, 0, 0], [2, 0, 0], [1, 1, 0]]);
+        let path = shapes::path_of(random, lengths, Pointers::Anywhere);
+        let parts = PacketParts { kinds: random.pick(&[0, 0x30, 0x04, 0x51]), path_type: 1, path, payload: 2 };
+        let mut bytes = shapes::packet_of(random, &parts);
+        if random.flip() {
+            shapes::damage(random, &mut bytes, 60);
+        }
+        subject.call(format!("packet {}", word(&bytes)));
+    }
+    subject
+}
+
+/// Common and address headers alone.
+fn headers(random: &mut Random) -> Subject {
+    let mut subject = Subject::new("headers");
+    subject.note("Common headers read: cut at every byte, every first byte, factors round 9, and any.");
+    let base = lines::parse_bytes("0ab123451109ffff0134abcd");
+    for length in 0..=12 {
+        subject.call(format!("common {}", hex(&base[..length])));
+    }
+    for (place, byte) in (0..=255).step_by(17).map(|byte| (0, byte)).chain((0..=12).map(|byte| (5, byte))) {
+        let mut bytes = base.clone();
+        bytes[place] = byte;
+        subject.call(format!("common {}", hex(&bytes)));
+    }
+    for _ in 0..80 {
+        let mut bytes = random.bytes(12);
+        bytes[0] &= 0x0f;
+        subject.call(format!("common {}", hex(&bytes)));
+    }
+    subject.note("Common headers written: 10, 3, 9 in this order; factor and payload length can't be too wide here.");
+    for (flow, factor, payload, size) in faults() {
+        if factor > 255 || payload > 65_535 {
+            continue;
+        }
+        let dst = word(&vec![0xee; size - 32]);
+        subject.call(format!("putcommon 15 171 {flow} 17 {factor} {payload} 255 15 4 65535 {dst}"));
+    }
+    for (version, destination, source) in [(15, 15, 15), (16, 0, 0), (0, 16, 0), (0, 0, 16), (255, 255, 255)] {
+        subject.call(format!("putcommon {version} 1 2 3 9 4 5 {destination} {source} 6 {}", word(&[0xee; 12])));
+    }
+    addresses(random, &mut subject);
+    subject
+}
+
+/// Address headers of every pair of kinds, cut and written.
+fn addresses(random: &mut Random, subject: &mut Subject) {
+    subject.note("Address headers of every pair of kinds: whole, or one byte short; written, or into another size.");
+    for kinds in 0..=255u8 {
+        let (destination, source) = (kinds >> 4, kinds & 15);
+        let length = 16 + 4 * (usize::from(destination % 4) + 1) + 4 * (usize::from(source % 4) + 1);
+        let cut = usize::from(random.once_in(4));
+        subject.call(format!("address {destination} {source} {}", hex(&random.bytes(length - cut))));
+        if kinds % 3 == 0 {
+            let size = length + random.pick(&[0, 0, 0, 1]) - random.pick(&[0, 0, 0, 1]);
+            subject.call(format!("putaddress {} {}", ends_words(random, kinds), word(&vec![0xee; size])));
+        }
+    }
+    for length in 0..=24 {
+        subject.call(format!("address 0 0 {}", hex(&random.bytes(length))));
+    }
+}
+
+/// The words of two ends.
+fn ends_words(random: &mut Random, kinds: u8) -> String {
+    let ends = shapes::ends(random, kinds >> 4, kinds & 15);
+    let host = |host: &scion_proto::Host| {
+        let length = 4 * (usize::from(host.kind % 4) + 1);
+        format!("{} {} {}", host.kind, host.service, hex(&host.bytes[..length]))
+    };
+    format!("{} {} {} {}", ends.destination_ia, ends.source_ia, host(&ends.destination), host(&ends.source))
+}
+
+/// How many bytes the hosts of two kinds take.
+fn hosts_length(kinds: u8) -> usize {
+    4 * (usize::from(kinds >> 4 & 3) + 1) + 4 * (usize::from(kinds & 3) + 1)
+}
+
+/// Headers made and written, with every answer.
+fn writing(random: &mut Random) -> Subject {
+    let mut subject = Subject::new("writing");
+    subject.note("Headers made: every pair of host kinds, lengths at the border of the factor.");
+    for kinds in (0..=255u8).step_by(5) {
+        let (kind, length) = (random.pick(&[0, 2, 255]), random.below(20));
+        let added = if kind == 0 { 0 } else { 3 + length };
+        let dst = word(&vec![0xee; 28 + hosts_length(kinds) + added as usize]);
+        subject.call(format!("new 17 9 1 {kind} {} 010203+{length} {dst}", ends_words(random, kinds)));
+    }
+    for length in [0, 1, 3, 4, 5, 8, 980, 984, 987, 988, 1200] {
+        let path = if length == 0 { String::from("-") } else { format!("aa+{}", length - 1) };
+        subject.call(format!("new 17 0 1 2 {} {path} 00+{}", ends_words(random, 0), 35 + length));
+    }
+    subject.note("Headers written: 10, 3, 12, 11, 9 in this order, and what is written.");
+    let ends = ends_words(random, 0x04);
+    for (flow, factor, payload, size) in faults() {
+        let dst = word(&vec![0xee; size]);
+        subject.call(format!("write 0 171 {flow} 17 {factor} {payload} 2 65535 {ends} 0102030405060708 {dst}"));
+    }
+    for version in [0, 1, 15, 16, 255] {
+        subject.call(format!("write {version} 0 1 17 11 0 0 0 {ends} 01020304 {}", word(&[0xee; 36])));
+    }
+    for kinds in (0..=255u8).step_by(3) {
+        let ends = ends_words(random, kinds);
+        let dst = word(&vec![0; 28 + hosts_length(kinds) + 3]);
+        subject.call(format!("write 0 0 1 17 9 5 7 0 {ends} 010203 {dst}"));
+    }
+    subject.note("A standard path that was read, and one that was not, which document 01 has written as it is.");
+    for path in [sample([1, 0, 0], 1, 0, 0), sample([2, 1, 0], 1, 2, 63), vec![0, 0, 0x20, 1]] {
+        let dst = word(&vec![0xee; 36 + path.len()]);
+        let factor = (36 + path.len()) / 4;
+        subject.call(format!("write 0 0 1 17 {factor} 0 1 0 {} {} {dst}", ends_words(random, 0), word(&path)));
+    }
+    subject
+}
+
+/// Flow, factor, payload and destination size: each fine or at fault.
+fn faults() -> Vec<(u32, usize, usize, usize)> {
+    let mut all = Vec::new();
+    for flow in [0xf_ffff, 0x10_0000] {
+        for factor in [11, 0, 256, 255, 1] {
+            for payload in [65_535, 65_536] {
+                all.extend([44, 43, 45].map(|size| (flow, factor, payload, size)));
+            }
+        }
+    }
+    all
+}
+
+/// Writes a subject's lines to files of at most so many bytes; how many files and lines.
+fn store(folder: &Path, subject: Subject) -> (usize, usize) {
+    let mut files: Vec<String> = vec![String::new()];
+    for line in &subject.lines {
+        if files.last().expect("a file").len() + line.len() + 1 > MOST {
+            files.push(String::new());
+        }
+        let file = files.last_mut().expect("a file");
+        file.push_str(line);
+        file.push('\n');
+    }
+    for (index, text) in files.iter().enumerate() {
+        fs::write(folder.join(format!("{}-{}.txt", subject.name, index + 1)), text).expect("a file written");
+    }
+    (files.len(), subject.lines.iter().filter(|line| !line.starts_with('#')).count())
+}
+
+/// Writes the whole list to a folder.
+pub fn run(folder: &str) -> bool {
+    let mut random = Random::new(2026);
+    let folder = Path::new(folder);
+    fs::create_dir_all(folder).expect("a folder");
+    let subjects = [
+        meta(&mut random),
+        fields(&mut random),
+        paths(&mut random),
+        moves(),
+        packets(&mut random),
+        headers(&mut random),
+        writing(&mut random),
+    ];
+    for subject in subjects {
+        let name = subject.name;
+        let (files, lines) = store(folder, subject);
+        println!("list: {name}: {lines} calls in {files} files");
+    }
+    true
+}

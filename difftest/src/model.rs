@@ -1,0 +1,345 @@
+//! Document 01's rules for what the Rust lacks or leaves open, written from its text alone: moves, walks,
+//! accumulators by a path alone, and the writing of headers that the Rust can't build.
+
+use std::cell::Cell;
+
+use scion_proto::{Answer, Ends, Headers, Host, Path, PathAnswer, Walk};
+
+use crate::oracle::path::Oracle;
+use crate::oracle::{ACCEPTED, Refused, refusal};
+
+/// A plausible wrong rule of moving, put in the right one's place to see that the run's inputs tell them apart.
+#[derive(Debug, Clone, Copy, PartialEq)]
+pub enum Twist {
+    None,
+    OwnerIsAlwaysTheFirst,
+    OwnerIsAlwaysTheNext,
+    PeeringSparesEveryOwner,
+    PeeringSparesNoOwner,
+    PeeringSparesOnlyBeforeTheBorder,
+    PeeringSparesOnlyAfterTheBorder,
+    CrossingChangesTheAccumulator,
+    WalkChangesAtItsFirstMoveOnly,
+    WalkStopsOneEarly,
+    SixtyFourAreTooMany,
+    SixtyFiveAreNotTooMany,
+    PeeringOnOneIsFine,
+    PeeringOnBothIsNotFine,
+}
+
+/// All the wrong rules.
+pub const TWISTS: [Twist; 13] = [
+    Twist::OwnerIsAlwaysTheFirst,
+    Twist::OwnerIsAlwaysTheNext,
+    Twist::PeeringSparesEveryOwner,
+    Twist::PeeringSparesNoOwner,
+    Twist::PeeringSparesOnlyBeforeTheBorder,
+    Twist::PeeringSparesOnlyAfterTheBorder,
+    Twist::CrossingChangesTheAccumulator,
+    Twist::WalkChangesAtItsFirstMoveOnly,
+    Twist::WalkStopsOneEarly,
+    Twist::SixtyFourAreTooMany,
+    Twist::SixtyFiveAreNotTooMany,
+    Twist::PeeringOnOneIsFine,
+    Twist::PeeringOnBothIsNotFine,
+];
+
+thread_local! {
+    /// The wrong rule in force; none but in the self-check.
+    static TWIST: Cell<Twist> = const { Cell::new(Twist::None) };
+}
+
+/// Puts a wrong rule in force, or none.
+pub fn twist(twist: Twist) {
+    TWIST.set(twist);
+}
+
+/// Whether a wrong rule is in force.
+fn has(twist: Twist) -> bool {
+    TWIST.get() == twist
+}
+
+/// The lengths and pointers of an accepted path.
+#[derive(Clone, Copy)]
+pub struct Shape {
+    pub lengths: [usize; 3],
+    pub info_fields: usize,
+    pub hop_fields: usize,
+    pub info_pointer: usize,
+    pub hop_pointer: usize,
+}
+
+impl Shape {
+    /// The shape in a path's record.
+    pub fn of(record: &Path) -> Self {
+        let lengths = record.segment_lengths.map(usize::from);
+        Self {
+            lengths,
+            info_fields: lengths.iter().take_while(|length| **length > 0).count(),
+            hop_fields: lengths.iter().sum(),
+            info_pointer: record.current_info_field.into(),
+            hop_pointer: record.current_hop_field.into(),
+        }
+    }
+
+    /// The segment that a hop field stands in.
+    pub fn segment_of(&self, hop_field: usize) -> usize {
+        let mut end = 0;
+        for (segment, length) in self.lengths.iter().enumerate() {
+            end += length;
+            if hop_field < end {
+                return segment;
+            }
+        }
+        panic!("no such hop field")
+    }
+
+    /// Where info field `k` starts.
+    pub fn info_at(&self, k: usize) -> usize {
+        4 + 8 * k
+    }
+
+    /// Where hop field `h` starts.
+    pub fn hop_at(&self, h: usize) -> usize {
+        4 + 8 * self.info_fields + 12 * h
+    }
+
+    /// How many bytes the path takes.
+    pub fn bytes(&self) -> usize {
+        self.hop_at(self.hop_fields)
+    }
+}
+
+/// Whether direction is set in segment `k`.
+pub fn is_along(bytes: &[u8], shape: &Shape, k: usize) -> bool {
+    bytes[shape.info_at(k)] & 1 == 1
+}
+
+/// Whether peering is set in segment `k`.
+fn has_peering(bytes: &[u8], shape: &Shape, k: usize) -> bool {
+    bytes[shape.info_at(k)] & 2 == 2
+}
+
+/// The accumulator of segment `k`.
+pub fn accumulator(bytes: &[u8], shape: &Shape, k: usize) -> u16 {
+    let at = shape.info_at(k) + 2;
+    u16::from_be_bytes([bytes[at], bytes[at + 1]])
+}
+
+/// The first two code bytes of hop field `h`.
+fn code(bytes: &[u8], shape: &Shape, h: usize) -> u16 {
+    let at = shape.hop_at(h) + 6;
+    u16::from_be_bytes([bytes[at], bytes[at + 1]])
+}
+
+/// 13 or 14, where a path is refused to moves.
+fn refused_to_moves(bytes: &[u8], shape: &Shape) -> Option<Answer> {
+    let most = 64 + usize::from(has(Twist::SixtyFiveAreNotTooMany)) - usize::from(has(Twist::SixtyFourAreTooMany));
+    if shape.hop_fields > most {
+        return Some(refusal(13));
+    }
+    let with = (0..shape.info_fields).filter(|k| has_peering(bytes, shape, *k)).count();
+    let is_both = with == 2 && shape.info_fields == 2 && !has(Twist::PeeringOnBothIsNotFine);
+    let is_fine = with == 0 || is_both || (with == 1 && has(Twist::PeeringOnOneIsFine));
+    (!is_fine).then_some(refusal(14))
+}
+
+/// The change of segment `k`'s accumulator by the move from `h` to `h + 1`, both in that segment.
+fn change(bytes: &[u8], shape: &Shape, k: usize, h: usize) -> u16 {
+    let is_along = is_along(bytes, shape, k) && !has(Twist::OwnerIsAlwaysTheNext) || has(Twist::OwnerIsAlwaysTheFirst);
+    let owner = if is_along { h } else { h + 1 };
+    if has_peering(bytes, shape, k) && is_spared(shape, owner) {
+        return 0;
+    }
+    code(bytes, shape, owner)
+}
+
+/// Whether an owner is spared where peering is set: the last of the first segment, the first of the second.
+fn is_spared(shape: &Shape, owner: usize) -> bool {
+    let first = shape.lengths[0];
+    match TWIST.get() {
+        Twist::PeeringSparesEveryOwner => true,
+        Twist::PeeringSparesNoOwner => false,
+        Twist::PeeringSparesOnlyBeforeTheBorder => owner + 1 == first,
+        Twist::PeeringSparesOnlyAfterTheBorder => owner == first,
+        _ => owner == first || owner + 1 == first,
+    }
+}
+
+/// One move of a path that admits it: the pointers and perhaps an accumulator.
+fn step(bytes: &mut [u8], shape: &mut Shape) {
+    let h = shape.hop_pointer;
+    let k = shape.info_pointer;
+    let next = shape.segment_of(h + 1);
+    if next == k || has(Twist::CrossingChangesTheAccumulator) {
+        let new = accumulator(bytes, shape, k) ^ change(bytes, shape, k, h);
+        let at = shape.info_at(k) + 2;
+        bytes[at..at + 2].copy_from_slice(&new.to_be_bytes());
+    }
+    shape.hop_pointer = h + 1;
+    shape.info_pointer = next;
+    bytes[0] = (next as u8) << 6 | (h + 1) as u8;
+}
+
+/// The shape of a standard path that moves are not refused on, else the first refusal.
+fn movable(oracle: &Oracle, bytes: &[u8]) -> Result<Shape, Answer> {
+    oracle.standard()?;
+    let shape = Shape::of(&oracle.record());
+    match refused_to_moves(bytes, &shape) {
+        Some(answer) => Err(answer),
+        None => Ok(shape),
+    }
+}
+
+/// The record with the pointers of a shape.
+fn record_at(oracle: &Oracle, shape: &Shape) -> Path {
+    Path { current_info_field: shape.info_pointer as u8, current_hop_field: shape.hop_pointer as u8, ..oracle.record() }
+}
+
+/// A single move; `bytes` are the ones that `oracle` read, in a copy that may change.
+pub fn single_move(oracle: &Oracle, bytes: &mut [u8]) -> PathAnswer {
+    let mut shape = match movable(oracle, bytes) {
+        Ok(shape) => shape,
+        Err(answer) => return PathAnswer::refused(answer),
+    };
+    if shape.hop_pointer + 1 == shape.hop_fields {
+        return PathAnswer::refused(refusal(15));
+    }
+    step(bytes, &mut shape);
+    PathAnswer { answer: ACCEPTED, path: record_at(oracle, &shape) }
+}
+
+/// A walk: moves until the last hop field or the limit.
+pub fn walk(oracle: &Oracle, bytes: &mut [u8], limit: usize) -> Walk {
+    let mut shape = match movable(oracle, bytes) {
+        Ok(shape) => shape,
+        Err(answer) => return Walk::refused(answer),
+    };
+    let mut moves = 0;
+    let end = shape.hop_fields - usize::from(has(Twist::WalkStopsOneEarly));
+    while moves < limit && shape.hop_pointer + 1 < end {
+        let before = accumulator(bytes, &shape, shape.info_pointer).to_be_bytes();
+        let at = shape.info_at(shape.info_pointer) + 2;
+        step(bytes, &mut shape);
+        moves += 1;
+        if moves > 1 && has(Twist::WalkChangesAtItsFirstMoveOnly) {
+            bytes[at..at + 2].copy_from_slice(&before);
+        }
+    }
+    let arrived = u8::from(shape.hop_pointer + 1 == shape.hop_fields);
+    Walk { answer: ACCEPTED, path: record_at(oracle, &shape), moves, arrived }
+}
+
+/// Each hop field's accumulator by a path alone, without a move in it.
+pub fn accumulators(bytes: &[u8], shape: &Shape) -> Vec<u16> {
+    let mut all = Vec::new();
+    let mut first = 0;
+    for k in 0..shape.info_fields {
+        for i in first..first + shape.lengths[k] {
+            let changes = (first..i).map(|h| change(bytes, shape, k, h));
+            all.push(changes.fold(accumulator(bytes, shape, k), |sum, change| sum ^ change));
+        }
+        first += shape.lengths[k];
+    }
+    all
+}
+
+/// The entry and the exit interface of hop field `h`, by the direction of the segment it stands in.
+pub fn entry_and_exit(bytes: &[u8], shape: &Shape, h: usize) -> (u16, u16) {
+    let at = shape.hop_at(h);
+    let ingress = u16::from_be_bytes([bytes[at + 2], bytes[at + 3]]);
+    let egress = u16::from_be_bytes([bytes[at + 4], bytes[at + 5]]);
+    if is_along(bytes, shape, shape.segment_of(h)) { (ingress, egress) } else { (egress, ingress) }
+}
+
+/// A host's length.
+fn host_length(host: &Host) -> usize {
+    4 * (usize::from(host.kind % 4) + 1)
+}
+
+/// How many path bytes are written: none for type 0.
+fn path_bytes(path_type: u8, path_len: usize) -> usize {
+    if path_type == 0 { 0 } else { path_len }
+}
+
+/// The headers that are made for two ends and a path.
+pub fn new_headers(
+    ends: &Ends,
+    path_type: u8,
+    path_len: usize,
+    next_header: u8,
+    payload_length: usize,
+    flow_id: u32,
+) -> Headers {
+    let mut headers = Headers {
+        next_header,
+        path_type,
+        flow_id,
+        payload_length,
+        destination_ia: ends.destination_ia,
+        source_ia: ends.source_ia,
+        destination: ends.destination,
+        source: ends.source,
+        ..Headers::default()
+    };
+    headers.header_length_factor = headers_length(&headers, path_len) / 4;
+    headers
+}
+
+/// How many bytes headers take with a path.
+pub fn headers_length(headers: &Headers, path_len: usize) -> usize {
+    let hosts = host_length(&headers.destination) + host_length(&headers.source);
+    12 + 16 + hosts + path_bytes(headers.path_type, path_len)
+}
+
+/// A host's bytes as written.
+fn host_bytes(host: &Host) -> Vec<u8> {
+    if host.kind == 4 {
+        let [high, low] = host.service.to_be_bytes();
+        return vec![high, low, 0, 0];
+    }
+    host.bytes[..host_length(host)].to_vec()
+}
+
+/// The refusals of writing, in document 01's order but for the size of the destination.
+fn refused_to_write(headers: &Headers) -> Option<Answer> {
+    let kinds = [headers.destination.kind, headers.source.kind];
+    if headers.version > 15 || headers.flow_id >= 1 << 20 || kinds.iter().any(|kind| *kind > 15) {
+        return Some(refusal(10));
+    }
+    match (headers.header_length_factor, headers.payload_length) {
+        (0, _) => Some(refusal(3)),
+        (256.., _) => Some(refusal(12)),
+        (_, 65_536..) => Some(refusal(11)),
+        _ => None,
+    }
+}
+
+/// The bytes of headers that are not refused.
+fn header_bytes(headers: &Headers, path: &[u8]) -> Vec<u8> {
+    let first = u32::from(headers.version) << 28 | u32::from(headers.traffic_class) << 20 | headers.flow_id;
+    let mut bytes = first.to_be_bytes().to_vec();
+    bytes.extend([headers.next_header, headers.header_length_factor as u8]);
+    bytes.extend((headers.payload_length as u16).to_be_bytes());
+    bytes.extend([headers.path_type, headers.destination.kind << 4 | headers.source.kind]);
+    bytes.extend(headers.reserved.to_be_bytes());
+    bytes.extend(headers.destination_ia.to_be_bytes());
+    bytes.extend(headers.source_ia.to_be_bytes());
+    bytes.extend(host_bytes(&headers.destination));
+    bytes.extend(host_bytes(&headers.source));
+    bytes.extend(&path[..path_bytes(headers.path_type, path.len())]);
+    bytes
+}
+
+/// Headers written to `dst`.
+pub fn write_headers(headers: &Headers, path: &[u8], dst: &mut [u8]) -> Answer {
+    if let Some(answer) = refused_to_write(headers) {
+        return answer;
+    }
+    let bytes = header_bytes(headers, path);
+    if dst.len() != bytes.len() {
+        return refusal(9);
+    }
+    dst.copy_from_slice(&bytes);
+    ACCEPTED
+}

@@ -1,0 +1,117 @@
+//! Packets compared: every kind, type and factor, cuts at every byte, random good ones and damaged ones.
+
+use crate::check::Checker;
+use crate::oracle::packet::same_from_slice;
+use crate::random::Random;
+use crate::shapes::{self, PacketParts, Pointers};
+use crate::tally::{Call, hex};
+
+/// A small packet of kinds and a type: a path of two hop fields, or 8 bytes, or none.
+fn small(random: &mut Random, kinds: u8, path_type: u8, payload: usize) -> Vec<u8> {
+    let path = match path_type {
+        0 => Vec::new(),
+        1 => shapes::path_of(random, [2, 0, 0], Pointers::Anywhere),
+        _ => random.bytes(8),
+    };
+    shapes::packet_of(random, &PacketParts { kinds, path_type, path, payload })
+}
+
+/// Every pair of host kinds with each sort of path: whole, one byte short, one byte more, and every factor round it.
+pub fn every_kind(checker: &mut Checker, random: &mut Random) {
+    for kinds in 0..=255 {
+        for path_type in [0, 1, 2] {
+            let mut bytes = small(random, kinds, path_type, 2);
+            checker.read_packet(&bytes);
+            checker.read_packet(&bytes[..bytes.len() - 1]);
+            let factor = bytes[5];
+            for other in factor.saturating_sub(3)..=factor + 2 {
+                bytes[5] = other;
+                checker.read_packet(&bytes);
+            }
+        }
+        if checker.is_done() {
+            return;
+        }
+    }
+}
+
+/// Every path type, every version, and every factor over packets of several lengths.
+pub fn every_type_and_factor(checker: &mut Checker, random: &mut Random) {
+    for byte in 0..=255 {
+        let bytes = small(random, 0, byte, 1);
+        checker.read_packet(&bytes);
+        let mut bytes = small(random, 0x30, 1, 0);
+        bytes[0] = byte;
+        checker.read_packet(&bytes);
+        checker.read_packet(&bytes[..1]);
+        for path_type in [0, 1, 2] {
+            for length in [36, 37, 40, 72, 100, 1020, 1021, 1100] {
+                let mut bytes = small(random, 0, path_type, 0);
+                bytes[5] = byte;
+                bytes.resize(length, 0);
+                checker.read_packet(&bytes);
+            }
+        }
+    }
+}
+
+/// Packets cut at every byte, and with every payload length beside the one that fits.
+pub fn every_cut(checker: &mut Checker, random: &mut Random) {
+    for (kinds, path_type) in [(0x00, 0), (0x00, 1), (0x34, 1), (0x43, 2), (0xff, 1), (0x04, 0), (0x51, 255)] {
+        let mut bytes = small(random, kinds, path_type, 5);
+        bytes.extend([1, 2, 3]);
+        for length in 0..=bytes.len() {
+            checker.read_packet(&bytes[..length]);
+        }
+        for payload in 0..=300u16 {
+            bytes[6..8].copy_from_slice(&payload.to_be_bytes());
+            checker.read_packet(&bytes);
+        }
+    }
+}
+
+/// The largest payload, and the largest headers.
+pub fn largest(checker: &mut Checker, random: &mut Random) {
+    for path_type in [0, 1, 2] {
+        let bytes = small(random, 0, path_type, 65_535);
+        for cut in [0, 1, 2, 65_535] {
+            checker.read_packet(&bytes[..bytes.len() - cut]);
+        }
+    }
+    let path = shapes::path_of(random, [63, 17, 0], Pointers::Anywhere);
+    for kinds in 0..=255 {
+        let parts = PacketParts { kinds, path_type: 1, path: path.clone(), payload: 3 };
+        let bytes = shapes::packet_of(random, &parts);
+        checker.read_packet(&bytes);
+        checker.read_packet(&bytes[..bytes.len() - 4]);
+    }
+    for lengths in shapes::BORDERS {
+        let path = shapes::path_of(random, lengths, Pointers::Anywhere);
+        let bytes = shapes::packet_of(random, &PacketParts { kinds: 0, path_type: 1, path, payload: 0 });
+        checker.read_packet(&bytes);
+    }
+}
+
+/// A random packet: good, or damaged, at times cut at every byte.
+pub fn random_packet(checker: &mut Checker, random: &mut Random) {
+    let mut bytes = shapes::packet(random);
+    checker.read_packet(&bytes);
+    if random.once_in(500) {
+        for length in 0..bytes.len() {
+            checker.read_packet(&bytes[..length]);
+        }
+    }
+    if random.once_in(64) && !same_from_slice(&bytes) {
+        let words = (String::from("the Rust from a slice"), String::from("its byte string"));
+        checker.tally.differ(Call::ReadPacket, hex(&bytes), words.0, words.1);
+    }
+    for _ in 0..3 {
+        let mut damaged = bytes.clone();
+        let head = random.pick(&[12, 44, 60]);
+        shapes::damage(random, &mut damaged, head);
+        checker.read_packet(&damaged);
+    }
+    let at = random.below(bytes.len());
+    bytes.truncate(at);
+    checker.read_packet(&bytes);
+}

@@ -1,0 +1,256 @@
+//! Answers worked out by hand for packets and header writing, held against the Rust and the library.
+//! Those for paths are the stored answers of the program that executes calls, which `replay` holds against the Rust.
+
+use scion_proto::{Answer, Ends, Headers, Host, Packet, Part};
+
+use crate::check::{Checker, Input};
+use crate::lines::parse_bytes;
+use crate::oracle::{packet, write};
+use crate::random::Random;
+use crate::shapes;
+
+/// The smallest packet: factor 9, type 0, IPv4 hosts, no payload.
+const K36: &str = "0000000111090000000000000001ff00000001100002ff0000000220d0d1d2d350515253";
+/// A standard path of two hop fields.
+const M1: &str = "000020000100111100000001000000000005a00bc1c2c3c40000000700000cd0e1e2e3e4";
+
+/// Rows that were held, and those that the Rust does not give.
+#[derive(Default)]
+struct Rows {
+    held: usize,
+    missed: usize,
+}
+
+impl Rows {
+    /// Holds a row's answer against what was found.
+    fn hold<T: PartialEq + std::fmt::Debug>(&mut self, row: &str, found: T, worked: T) {
+        self.held += 1;
+        if found != worked {
+            self.missed += 1;
+            println!("ROW {row}: by the Rust {found:?}, worked out {worked:?}");
+        }
+    }
+}
+
+/// A packet like `K36` with bytes set and a length.
+fn k36(edits: &[(usize, u8)], length: usize) -> Vec<u8> {
+    let mut bytes = parse_bytes(K36);
+    bytes.resize(length.max(36), 0xdd);
+    for (place, byte) in edits {
+        bytes[*place] = *byte;
+    }
+    bytes.truncate(length);
+    bytes
+}
+
+/// A packet of a type and path bytes behind `K36`'s hosts.
+fn with_path(path_type: u8, path: &str, factor: u8, payload: u8, length: usize) -> Vec<u8> {
+    let mut bytes = k36(&[(5, factor), (7, payload), (8, path_type)], 36);
+    bytes.extend(parse_bytes(path));
+    bytes.resize(length, 0xdd);
+    bytes
+}
+
+/// Reads a packet on both sides and hands back the Rust's answer.
+fn read(checker: &mut Checker, bytes: &[u8]) -> Packet {
+    checker.read_packet(bytes);
+    packet::read_packet(bytes)
+}
+
+/// Rows of reading that say a number and a value.
+fn numbers(checker: &mut Checker, rows: &mut Rows) {
+    let table: Vec<(&str, Vec<u8>, u8, u8)> = vec![
+        ("P-01", vec![], 1, 0),
+        ("P-02", vec![0x10], 2, 1),
+        ("P-02", vec![0xf0], 2, 15),
+        ("P-02", [&[0x10][..], &[0; 11]].concat(), 2, 1),
+        ("O", k36(&[(0, 0x10), (5, 0)], 36), 2, 1),
+        ("P-03", vec![0x00], 1, 0),
+        ("P-03", vec![0x0f], 1, 0),
+        ("P-03", k36(&[], 11), 1, 0),
+        ("P-03", k36(&[(5, 8)], 11), 1, 0),
+        ("P-04", k36(&[(5, 8)], 12), 3, 8),
+        ("P-04", k36(&[(5, 0)], 12), 3, 0),
+        ("P-04", k36(&[], 12), 1, 0),
+        ("P-08", k36(&[], 27), 1, 0),
+        ("P-08", k36(&[], 28), 1, 0),
+        ("P-09", k36(&[], 31), 1, 0),
+        ("P-09", k36(&[], 32), 1, 0),
+        ("P-09", k36(&[], 35), 1, 0),
+        ("P-09", k36(&[], 36), 0, 0),
+        ("P-15", k36(&[(9, 0x33)], 60), 1, 0),
+        ("P-15", k36(&[(9, 0x03)], 60), 1, 0),
+        ("P-15", k36(&[(9, 0x33), (5, 15)], 60), 0, 0),
+        ("P-17", k36(&[(5, 10)], 40), 7, 0),
+        ("P-17", with_path(1, M1, 19, 0, 76), 7, 0),
+        ("P-17", with_path(1, M1, 18, 0, 72), 0, 0),
+        ("P-18", with_path(1, "00002001", 10, 0, 40), 4, 0),
+        ("P-18", with_path(1, "00002000", 10, 0, 40), 1, 0),
+        ("P-18", with_path(1, "-", 9, 0, 36), 1, 0),
+        ("P-18", k36(&[(5, 10), (7, 1)], 40), 7, 0),
+        ("P-18", with_path(1, M1, 17, 0, 72), 1, 0),
+        ("O", with_path(1, "00002001", 10, 9, 40), 4, 0),
+        ("P-19", k36(&[(7, 1)], 36), 1, 0),
+        ("P-19", k36(&[(7, 1)], 37), 0, 0),
+        ("P-19", k36(&[(6, 255), (7, 255)], 36 + 65_534), 1, 0),
+        ("P-19", k36(&[(6, 255), (7, 255)], 36 + 65_535), 0, 0),
+        ("P-21", k36(&[(5, 10)], 36), 0, 0),
+        ("P-21", k36(&[(5, 255)], 36), 0, 0),
+        ("P-21", with_path(1, M1, 19, 0, 72), 0, 0),
+        ("P-21", with_path(1, M1, 255, 0, 72), 0, 0),
+        ("P-21", with_path(1, M1, 19, 0, 73), 7, 0),
+        ("P-21", k36(&[(5, 10)], 39), 7, 0),
+        ("P-21", k36(&[(5, 10), (7, 1)], 36), 1, 0),
+    ];
+    for (row, bytes, number, value) in table {
+        rows.hold(row, read(checker, &bytes).answer, Answer { number, value });
+    }
+}
+
+/// Rows of reading that say values.
+fn values(checker: &mut Checker, rows: &mut Rows) {
+    let packet = read(checker, &k36(&[(0, 0x0a), (1, 0xb1), (2, 0x23), (3, 0x45)], 36));
+    rows.hold("P-05", (packet.version, packet.traffic_class, packet.flow_id), (0, 0xab, 0x12345));
+    let packet = read(checker, &k36(&[(0, 0x0a), (1, 0xbf), (2, 0xff), (3, 0xff)], 36));
+    rows.hold("P-05", (packet.traffic_class, packet.flow_id), (0xab, 0xfffff));
+    let packet = read(checker, &k36(&[(9, 0x34), (5, 12)], 48));
+    rows.hold("P-06", (packet.destination.kind, packet.source.kind), (3, 4));
+    let packet = read(checker, &k36(&[], 36));
+    rows.hold("P-10", (packet.destination_ia, packet.source_ia), (0x0001_ff00_0000_0110, 0x0002_ff00_0000_0220));
+    rows.hold("P-10", packet.destination.bytes[..4].to_vec(), vec![0xd0, 0xd1, 0xd2, 0xd3]);
+    rows.hold("P-10", packet.source.bytes[..4].to_vec(), vec![0x50, 0x51, 0x52, 0x53]);
+    let packet = read(checker, &k36(&[(10, 255), (11, 255)], 36));
+    rows.hold("P-23", packet.reserved, 0xffff);
+    for (factor, length, path) in [(11, 44, 8), (9, 36, 0), (11, 40, 4)] {
+        for path_type in [2, 255] {
+            let packet = read(checker, &with_path(path_type, "-", factor, 0, length));
+            rows.hold("P-16", packet.path_part.len, path);
+        }
+    }
+    let packet = read(checker, &k36(&[(7, 1)], 38));
+    rows.hold("P-19", packet.payload_part, Part { start: 36, len: 1 });
+    let packet = read(checker, &with_path(1, M1, 18, 4, 76));
+    rows.hold("P-20", packet.payload_part, Part { start: 72, len: 4 });
+    hosts(checker, rows);
+}
+
+/// Rows on hosts.
+fn hosts(checker: &mut Checker, rows: &mut Rows) {
+    for kind in 0..16u8 {
+        let least = 9 + kind % 4;
+        let length = usize::from(least) * 4;
+        let packet = read(checker, &k36(&[(9, kind << 4), (5, least)], length));
+        rows.hold("P-11", packet.answer.number, 0);
+        rows.hold("P-12", packet.destination.kind, kind);
+        if least > 9 {
+            let packet = read(checker, &k36(&[(9, kind << 4), (5, least - 1)], length));
+            rows.hold("P-11", packet.answer.number, 1);
+        }
+    }
+    for padding in [0, 0xbe] {
+        let edits = [(9, 0x40), (28, 0), (29, 2), (30, padding), (31, padding)];
+        let host = read(checker, &k36(&edits, 36)).destination;
+        rows.hold("P-13", host, Host { kind: 4, service: 2, bytes: [0; 16] });
+    }
+    let host = read(checker, &k36(&[(9, 0x10), (5, 10)], 40)).destination;
+    rows.hold("P-14", host.bytes[8..].to_vec(), vec![0; 8]);
+    let path = shapes::path_of(&mut Random::new(1), [63, 17, 0], shapes::Pointers::Start);
+    let parts = shapes::PacketParts { kinds: 0x01, path_type: 1, path, payload: 0 };
+    let packet = read(checker, &shapes::packet_of(&mut Random::new(2), &parts));
+    rows.hold("P-22", (packet.answer.number, packet.header_length_factor, packet.path_part.len), (0, 255, 980));
+}
+
+/// `K36`'s ends.
+fn ends() -> Ends {
+    let host = |bytes: [u8; 4]| {
+        let mut host = Host::default();
+        host.bytes[..4].copy_from_slice(&bytes);
+        host
+    };
+    Ends {
+        destination_ia: 0x0001_ff00_0000_0110,
+        destination: host([0xd0, 0xd1, 0xd2, 0xd3]),
+        source_ia: 0x0002_ff00_0000_0220,
+        source: host([0x50, 0x51, 0x52, 0x53]),
+    }
+}
+
+/// Makes headers on both sides.
+fn make(checker: &mut Checker, path_type: u8, path: &[u8], payload: usize) -> Headers {
+    checker.new_headers(&ends(), Input { path_type, bytes: path }, 0x11, payload, 1)
+}
+
+/// Writes headers on both sides, and hands back the expected number and bytes.
+fn written(checker: &mut Checker, headers: &Headers, path: &[u8], size: usize) -> (u8, Vec<u8>) {
+    checker.write_headers(headers, path, size);
+    let mut dst = vec![0xee; size];
+    let (answer, _) = write::write_headers(headers, path, &mut dst);
+    (answer.number, dst)
+}
+
+/// Rows on what is written.
+fn bytes_written(checker: &mut Checker, rows: &mut Rows) {
+    let made = make(checker, 0, &[], 0);
+    rows.hold("W-01", made.header_length_factor, 9);
+    rows.hold("W-02", written(checker, &made, &[], 36), (0, parse_bytes(K36)));
+    rows.hold("W-03", make(checker, 0, &[1, 2, 3, 4], 0).header_length_factor, 9);
+    rows.hold("W-03", written(checker, &made, &[1, 2, 3, 4], 36).0, 0);
+    let five = make(checker, 2, &[1, 2, 3, 4, 5], 0);
+    rows.hold("W-01", five.header_length_factor, 10);
+    for (size, number) in [(41, 0), (40, 9), (44, 9)] {
+        rows.hold("W-14", written(checker, &five, &[1, 2, 3, 4, 5], size).0, number);
+    }
+    let unread = parse_bytes("00002001");
+    let headers = make(checker, 1, &unread, 0);
+    rows.hold("W-04", written(checker, &headers, &unread, 40).1[36..].to_vec(), unread.clone());
+    let three = make(checker, 2, &[1, 2, 3], 0);
+    rows.hold("W-04", (three.header_length_factor, written(checker, &three, &[1, 2, 3], 39).0), (9, 0));
+    let (_, bytes) = written(checker, &three, &[1, 2, 3], 39);
+    let packet = read(checker, &bytes);
+    rows.hold("W-19", (packet.header_length_factor, packet.path_part.len), (9, 0));
+    let mut headers = made;
+    headers.destination = Host { kind: 4, service: 2, bytes: [0; 16] };
+    rows.hold("W-06", written(checker, &headers, &[], 36).1[28..32].to_vec(), vec![0, 2, 0, 0]);
+    headers.destination = Host { kind: 5, service: 0, bytes: [7; 16] };
+    rows.hold("W-07", written(checker, &headers, &[], 40).1[28..36].to_vec(), vec![7; 8]);
+}
+
+/// Rows on refusals of writing.
+fn refusals(checker: &mut Checker, rows: &mut Rows) {
+    for (length, number) in [(984, 0), (987, 0), (988, 12)] {
+        let path = vec![9; length];
+        let headers = make(checker, 2, &path, 0);
+        rows.hold("W-10", written(checker, &headers, &path, 36 + length).0, number);
+    }
+    let made = make(checker, 0, &[], 0);
+    for (payload_length, number) in [(65_535, 0), (65_536, 11), (usize::MAX, 11)] {
+        rows.hold("W-11", written(checker, &Headers { payload_length, ..made }, &[], 36).0, number);
+    }
+    for (header_length_factor, number) in [(0, 3), (1, 0), (8, 0), (9, 0), (255, 0), (256, 12)] {
+        rows.hold("W-12", written(checker, &Headers { header_length_factor, ..made }, &[], 36).0, number);
+    }
+    for (version, number) in [(0, 0), (1, 0), (15, 0), (16, 10)] {
+        rows.hold("W-16", written(checker, &Headers { version, ..made }, &[], 36).0, number);
+    }
+    let mut headers = make(checker, 2, &[0; 988], 65_536);
+    headers.flow_id = 0x10_0000;
+    rows.hold("W-09", written(checker, &headers, &[0; 988], 1).0, 10);
+    headers.flow_id = 1;
+    rows.hold("W-09", written(checker, &headers, &[0; 988], 1).0, 12);
+    let zero = Headers { header_length_factor: 0, payload_length: 65_536, ..made };
+    rows.hold("W-09", written(checker, &zero, &[], 35).0, 3);
+    rows.hold("W-09", written(checker, &Headers { payload_length: 65_536, ..made }, &[], 35).0, 11);
+    rows.hold("W-09", written(checker, &made, &[], 35).0, 9);
+    rows.hold("W-09", written(checker, &made, &[], 37).0, 9);
+}
+
+/// Holds every row; whether the Rust gives them all.
+pub fn run(checker: &mut Checker) -> bool {
+    let mut rows = Rows::default();
+    numbers(checker, &mut rows);
+    values(checker, &mut rows);
+    bytes_written(checker, &mut rows);
+    refusals(checker, &mut rows);
+    println!("  worked answers: {} held, {} that the Rust does not give", rows.held, rows.missed);
+    rows.missed == 0
+}

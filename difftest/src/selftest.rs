@@ -1,0 +1,173 @@
+//! The harness made to fail: every byte of every answer, lent bytes and their guards are made wrong in turn, and
+//! plausible wrong rules of moving are put in the right one's place. Each has to be reported.
+
+use scion_proto::{
+    Answer, Expiry, Headers, HopField, InfoField, Interface, InterfaceCount, Packet, PathAnswer, PathRead, Segment,
+    TimeLeft, Walk,
+};
+
+use crate::check::{Checker, Input};
+use crate::model::{self, TWISTS, Twist};
+use crate::plant::{self, Fault, Plant};
+use crate::random::Random;
+use crate::shapes::{self, Pointers};
+use crate::tally::{CALLS, Call};
+use crate::{events, packets, paths, writing};
+
+/// The bytes of a type that count: those whose change makes another value, padding left out.
+fn bytes_of<T: Default + PartialEq + Copy>() -> Vec<usize> {
+    let plain = T::default();
+    let is_seen = |at: &usize| {
+        let mut changed = plain;
+        plant::flip(&mut changed, *at);
+        changed != plain
+    };
+    (0..size_of::<T>()).filter(is_seen).collect()
+}
+
+/// The bytes of a call's answer.
+fn answer_bytes(call: Call) -> Vec<usize> {
+    match call {
+        Call::ReadPath => bytes_of::<PathRead>(),
+        Call::InfoField => bytes_of::<InfoField>(),
+        Call::HopField => bytes_of::<HopField>(),
+        Call::Segment => bytes_of::<Segment>(),
+        Call::SegmentExpiry | Call::Expiry => bytes_of::<Expiry>(),
+        Call::TimeLeft => bytes_of::<TimeLeft>(),
+        Call::InterfacesCount => bytes_of::<InterfaceCount>(),
+        Call::Interface => bytes_of::<Interface>(),
+        Call::SetIngressAlert | Call::SetEgressAlert => bytes_of::<PathAnswer>(),
+        Call::CopyPath | Call::ReversePath | Call::Move => bytes_of::<PathAnswer>(),
+        Call::Walk => bytes_of::<Walk>(),
+        Call::ReadPacket => bytes_of::<Packet>(),
+        Call::NewHeaders => bytes_of::<Headers>(),
+        Call::HeadersLength => bytes_of::<usize>(),
+        Call::WriteHeaders => bytes_of::<Answer>(),
+    }
+}
+
+/// Calls that never refuse and lend no bytes.
+fn is_plain(call: Call) -> bool {
+    matches!(call, Call::NewHeaders | Call::HeadersLength)
+}
+
+/// Every fault of a call.
+fn faults(call: Call) -> Vec<Plant> {
+    let mut all: Vec<Fault> = answer_bytes(call).into_iter().map(Fault::AnswerByte).collect();
+    if !is_plain(call) {
+        all.extend([0, 7, 15, 16, 17, 19].map(Fault::LentByte));
+        all.extend([0, 8, 15].map(Fault::LentByteFromEnd));
+        if call != Call::ReadPacket {
+            all.extend([16, 17, 20].map(Fault::LentByteFromEnd));
+        }
+    }
+    let ways: &[bool] = if is_plain(call) { &[true] } else { &[true, false] };
+    let plant = |(fault, accepted): (&Fault, &bool)| Plant { call, accepted: *accepted, fault: *fault };
+    all.iter().flat_map(|fault| ways.iter().map(move |way| plant((fault, way)))).collect()
+}
+
+/// A short run that makes every call, accepted and refused.
+fn short_run(checker: &mut Checker) {
+    let mut random = Random::new(5);
+    let path = shapes::path_of(&mut random, [2, 2, 0], Pointers::Anywhere);
+    for (path_type, length) in [(1, path.len()), (1, path.len() - 1), (2, path.len())] {
+        paths::every_call(checker, &mut random, Input { path_type, bytes: &path[..length] }, true);
+    }
+    for _ in 0..20 {
+        packets::random_packet(checker, &mut random);
+        writing::random_headers(checker, &mut random);
+    }
+}
+
+/// Event lists alone.
+fn event_run(checker: &mut Checker) {
+    let mut random = Random::new(6);
+    for _ in 0..200 {
+        events::random_list(checker, &mut random);
+        if checker.is_done() {
+            return;
+        }
+    }
+}
+
+/// Whether a run reports a fault.
+fn is_reported(plant: Plant, run: fn(&mut Checker)) -> bool {
+    let mut checker = Checker::planted(plant);
+    run(&mut checker);
+    checker.tally.differed > 0
+}
+
+/// The faults that event lists alone have to find: the number of an answer, and every byte of a path.
+fn event_faults() -> Vec<Plant> {
+    let mut all = Vec::new();
+    for call in [Call::Move, Call::Walk, Call::ReversePath] {
+        let fault = |fault| Plant { call, accepted: true, fault };
+        all.push(fault(Fault::AnswerByte(0)));
+        all.extend((0..24).map(|at| fault(Fault::LentByte(at))));
+        all.extend((0..12).map(|at| fault(Fault::LentByteFromEnd(at))));
+    }
+    all.push(Plant { call: Call::Walk, accepted: true, fault: Fault::AnswerByte(8) });
+    for call in [Call::Move, Call::ReversePath] {
+        all.push(Plant { call, accepted: false, fault: Fault::AnswerByte(0) });
+        all.push(Plant { call, accepted: false, fault: Fault::LentByte(2) });
+    }
+    all
+}
+
+/// Every move and walk of small shapes and of those beside 64 hop fields.
+fn move_run(checker: &mut Checker) {
+    paths::every_shape(checker, &mut Random::new(7), 3);
+}
+
+/// How many wrong rules of moving go unseen, by calls or by event lists. Lists begin with paths that moves admit, so
+/// that rules of refusal are not theirs to find, and end walks elsewhere than a rule of stopping says.
+fn missed_twists() -> usize {
+    let mut missed = 0;
+    for twist in TWISTS {
+        model::twist(twist);
+        let refuses = matches!(twist, Twist::SixtyFiveAreNotTooMany | Twist::PeeringOnOneIsFine);
+        let runs: &[fn(&mut Checker)] = if refuses { &[move_run] } else { &[move_run, event_run] };
+        for run in runs {
+            let mut checker = Checker::stopping();
+            run(&mut checker);
+            if checker.tally.differed == 0 {
+                println!("MISSED: {twist:?}");
+                missed += 1;
+            }
+        }
+    }
+    model::twist(Twist::None);
+    missed
+}
+
+/// Plants every fault; whether all were reported, and none where none was planted.
+pub fn run() -> bool {
+    let mut clean = Checker::default();
+    short_run(&mut clean);
+    event_run(&mut clean);
+    println!("without a fault: {}", clean.tally.summary());
+    let mut missed = 0;
+    let mut count = 0;
+    for call in CALLS {
+        for plant in faults(call) {
+            count += 1;
+            missed += report(plant, is_reported(plant, short_run), "calls");
+        }
+    }
+    for plant in event_faults() {
+        count += 1;
+        missed += report(plant, is_reported(plant, event_run), "event lists");
+    }
+    let twists = missed_twists();
+    println!("{} wrong rules of moving, {twists} missed", TWISTS.len());
+    println!("planted {count} faults, {} reported, {missed} missed", count - missed);
+    missed == 0 && twists == 0 && clean.tally.differed == 0
+}
+
+/// Prints a fault that went unseen; how many that makes.
+fn report(plant: Plant, is_seen: bool, place: &str) -> usize {
+    if !is_seen {
+        println!("MISSED by {place}: {plant:?}");
+    }
+    usize::from(!is_seen)
+}

@@ -1,0 +1,214 @@
+//! Counts of compared calls, of differences and of exceptions.
+
+use std::fmt::{Debug, Write};
+
+use scion_proto::{Answer, Answered};
+
+/// The calls that are compared.
+#[derive(Debug, Clone, Copy, PartialEq, Eq, PartialOrd, Ord)]
+#[repr(usize)]
+pub enum Call {
+    ReadPath,
+    InfoField,
+    HopField,
+    Segment,
+    SegmentExpiry,
+    Expiry,
+    TimeLeft,
+    InterfacesCount,
+    Interface,
+    SetIngressAlert,
+    SetEgressAlert,
+    CopyPath,
+    ReversePath,
+    Move,
+    Walk,
+    ReadPacket,
+    NewHeaders,
+    HeadersLength,
+    WriteHeaders,
+}
+
+/// Every call, in the order of the tables.
+pub const CALLS: [Call; 19] = [
+    Call::ReadPath,
+    Call::InfoField,
+    Call::HopField,
+    Call::Segment,
+    Call::SegmentExpiry,
+    Call::Expiry,
+    Call::TimeLeft,
+    Call::InterfacesCount,
+    Call::Interface,
+    Call::SetIngressAlert,
+    Call::SetEgressAlert,
+    Call::CopyPath,
+    Call::ReversePath,
+    Call::Move,
+    Call::Walk,
+    Call::ReadPacket,
+    Call::NewHeaders,
+    Call::HeadersLength,
+    Call::WriteHeaders,
+];
+
+/// Where the Rust gives no answer to compare with, and document 01 decides. There are no others.
+#[derive(Debug, Clone, Copy, PartialEq, Eq)]
+#[repr(usize)]
+pub enum Exception {
+    PanickingSize,
+    PanickingIndex,
+    InterfaceBeyondCount,
+    UnreadStandardPathWritten,
+    LongerEncoderDestination,
+    ContradictoryHeaders,
+    PathLengthHint,
+    FilesNotAtHand,
+}
+
+/// Each exception with its reason.
+pub const EXCEPTIONS: [(Exception, &str); 8] = [
+    (Exception::PanickingSize, "the Rust was seen to panic at this size; 01: 9"),
+    (Exception::PanickingIndex, "the Rust panics at this index; no wanted call has one, so none is counted"),
+    (
+        Exception::InterfaceBeyondCount,
+        "interface index at or above the count, where the Rust's answer has no meaning; 01: 8",
+    ),
+    (
+        Exception::UnreadStandardPathWritten,
+        "type 1 written with bytes that are not a path that was read; 01: written as given",
+    ),
+    (Exception::LongerEncoderDestination, "the Rust's encoder takes a longer destination; 01: 9"),
+    (
+        Exception::ContradictoryHeaders,
+        "a factor that the lengths don't give; the Rust writes it as it stands, and is compared",
+    ),
+    (Exception::PathLengthHint, "the Rust's length hint beside a path; always the byte count here, so none is counted"),
+    (
+        Exception::FilesNotAtHand,
+        "what stands in files that are not at hand; not on the byte path but for the glue named in README.md",
+    ),
+];
+
+/// How many differences are shown of each call: those with the shortest inputs.
+const SHOWN: usize = 3;
+
+/// The counts of a run.
+#[derive(Default)]
+pub struct Tally {
+    counts: [[u64; 16]; CALLS.len()],
+    exceptions: [u64; EXCEPTIONS.len()],
+    pub differed: u64,
+    pub claims: u64,
+    pub events: u64,
+    shown: [Vec<String>; CALLS.len()],
+}
+
+impl Tally {
+    /// How many calls have been compared.
+    pub fn compared(&self) -> u64 {
+        self.counts.iter().flatten().sum()
+    }
+
+    /// Compares two answers to a call; `input` is asked for only where they differ.
+    #[inline]
+    pub fn compare<T: Answered + PartialEq + Debug>(
+        &mut self,
+        call: Call,
+        ours: &T,
+        expected: &T,
+        input: impl FnOnce() -> String,
+    ) {
+        self.count(call, expected.answer());
+        if ours != expected {
+            self.differ(call, input(), format!("{ours:?}"), format!("{expected:?}"));
+        }
+    }
+
+    /// Counts a call by the number that is expected of it.
+    #[inline]
+    pub fn count(&mut self, call: Call, answer: Answer) {
+        self.counts[call as usize][usize::from(answer.number & 15)] += 1;
+    }
+
+    /// Compares the bytes after a call, which has been counted.
+    #[inline]
+    pub fn bytes(&mut self, call: Call, ours: &[u8], expected: &[u8], input: impl FnOnce() -> String) {
+        if ours != expected {
+            self.differ(call, input(), hex(ours), hex(expected));
+        }
+    }
+
+    /// Compares values that belong to a call, which has been counted.
+    #[inline]
+    pub fn values<T: PartialEq + Debug>(&mut self, call: Call, ours: &T, expected: &T, input: impl FnOnce() -> String) {
+        if ours != expected {
+            self.differ(call, input(), format!("{ours:?}"), format!("{expected:?}"));
+        }
+    }
+
+    /// Notes a difference, and keeps it while its input is among the shortest of its call.
+    #[cold]
+    pub fn differ(&mut self, call: Call, input: String, ours: String, expected: String) {
+        self.differed += 1;
+        let shown = &mut self.shown[call as usize];
+        shown.push(format!("DIFFERS {call:?} {input}\n    library  {ours}\n    expected {expected}"));
+        shown.sort_by_key(String::len);
+        shown.truncate(SHOWN);
+    }
+
+    /// Counts an exception.
+    #[inline]
+    pub fn except(&mut self, exception: Exception) {
+        self.exceptions[exception as usize] += 1;
+    }
+
+    /// The differences kept, by call, shortest input first.
+    pub fn differences(&self) -> impl Iterator<Item = &String> {
+        self.shown.iter().flatten()
+    }
+
+    /// The tables: calls by answer, and exceptions by name.
+    pub fn tables(&self) -> String {
+        let mut text = String::from("calls by expected answer\n");
+        write!(text, "{:<16}", "").unwrap();
+        for number in 0..16 {
+            write!(text, "{number:>11}").unwrap();
+        }
+        text.push('\n');
+        for call in CALLS {
+            write!(text, "{:<16}", format!("{call:?}")).unwrap();
+            for count in self.counts[call as usize] {
+                let cell = if count == 0 { String::from(".") } else { count.to_string() };
+                write!(text, "{cell:>11}").unwrap();
+            }
+            text.push('\n');
+        }
+        text.push_str("exceptions\n");
+        for (exception, reason) in EXCEPTIONS {
+            let name = format!("{exception:?}");
+            writeln!(text, "{name:<26}{:>12}  {reason}", self.exceptions[exception as usize]).unwrap();
+        }
+        text
+    }
+
+    /// The last line of a run.
+    pub fn summary(&self) -> String {
+        format!(
+            "compared {} calls, {} differed, {} under exceptions; {} events, {} claims of event lists",
+            self.compared(),
+            self.differed,
+            self.exceptions.iter().sum::<u64>(),
+            self.events,
+            self.claims
+        )
+    }
+}
+
+/// Bytes as hexadecimal digits, `-` where there are none.
+pub fn hex(bytes: &[u8]) -> String {
+    if bytes.is_empty() {
+        return String::from("-");
+    }
+    bytes.iter().map(|byte| format!("{byte:02x}")).collect()
+}
