@@ -1,21 +1,33 @@
 -- Worked examples, computed: document 01's K36 and packets of each kind of path, as the obligations work them out.
 -- Assumes nothing.
-use Prim.Native.Nat.{ℕ}
+use Prim.Native.Nat.{ℕ, zero, suc, _<_}
 use mathlib.Core.Path.{_≡_, refl}
+use mathlib.Core.Bool.{Bool, true, false}
 use mathlib.Core.List.{List, [], _∷_, _++_}
-use lib.ListN.{replicate, take}
-use Rattle.wire_encoding.specs.BigEndian.{bigEndian, bytesOf, numberAt, room}
+use native.Mathlib.Omega.{arith}
+use lib.ListN.{getD, set, replicate, take, drop}
+use lib.Dec.{ltb, lit<, lit≤}
+use borrow.Author.Tests.{ltb-true}
+use Rattle.wire_encoding.specs.Choice.{pick}
+use Rattle.wire_encoding.specs.BigEndian.{bigEndian, bytesOf, numberAt, room, part}
+use Rattle.address.specs.declared.host.HostAddr.the-variants.{V4, Svc}
 use Rattle.path_header.specs.Errors.{decodedNumber}
+use Rattle.path_header.specs.declared.error.Decoded.the-variants as decoded
 use Rattle.path_header.specs.MetaHeader as meta
 use Rattle.path.specs.Standard as standard
 use Rattle.path.specs.Dataplane as dataplane
 use Rattle.packet_header.specs.CommonHeader as common
 use Rattle.packet_header.specs.AddressHeader as address
 use Rattle.packet_header.specs.Encoding as encoding
+use Rattle.packet_header.specs.declared.address_header.MaybeEncoded.the-variants.{Decoded, Encoded}
 use Rattle.packet.specs.Raw as raw
 use Rattle.packet.specs.Raw.{readPacket}
 use Rattle.headers.specs.Headers as headers
+use Rattle.headers.specs.declared.ScionHeaders.{ScionHeaders}
 use Rattle.written_read.specs.WrittenRead as round
+use Rattle.written_read.specs.WrittenRead.{Typed, Fills, Unpadded, WrittenAgain}
+use Rattle.written_read.proofs.ReadsBack.{reads-back}
+use Rattle.written_read.proofs.WritesAgain.{writes-again}
 
 -- K36, and what reads and rewrites of it answer
 small : List ℕ
@@ -27,72 +39,167 @@ standardPacket = (0x00 ∷ 0x00 ∷ 0x00 ∷ 0x01 ∷ 0x11 ∷ 0x12 ∷ 0x00 ∷
 servicePacket : List ℕ
 servicePacket = (0x0A ∷ 0xBF ∷ 0x00 ∷ 0x01 ∷ 0x11 ∷ 0x0B ∷ 0x00 ∷ 0x00 ∷ 0x02 ∷ 0x41 ∷ 0xAB ∷ 0xCD ∷ 0x00 ∷ 0x01 ∷ 0xFF ∷ 0x00 ∷ 0x00 ∷ 0x00 ∷ 0x01 ∷ 0x10 ∷ 0x00 ∷ 0x02 ∷ 0xFF ∷ 0x00 ∷ 0x00 ∷ 0x00 ∷ 0x02 ∷ 0x20 ∷ 0x00 ∷ 0x02 ∷ 0xBE ∷ 0xEF ∷ 0x01 ∷ 0x02 ∷ 0x03 ∷ 0x04 ∷ 0x05 ∷ 0x06 ∷ 0x07 ∷ 0x08 ∷ 0x09 ∷ 0x09 ∷ 0x09 ∷ 0x09 ∷ [])
 
+-- the service packet with padding bytes of zero, and K36 that says 40 bytes of headers and has 36
+paddedPacket : List ℕ
+paddedPacket = take 30 servicePacket ++ (0x00 ∷ 0x00 ∷ drop 32 servicePacket)
+
+shortPacket : List ℕ
+shortPacket = set small 5 0x0A
+
+-- the headers of the standard packet and of the service packet, and their paths
+standardHeaders : ScionHeaders
+standardHeaders = record {
+  version = 0;
+  «traffic_class» = 0;
+  «flow_id» = 1;
+  «next_header» = 0x11;
+  «header_length_factor» = 18;
+  «payload_length» = 4;
+  «path_type» = 1;
+  reserved = 0;
+  address = record {
+    «destination_ia» = record { 0 = 0x0001FF0000000110 };
+    «source_ia» = record { 0 = 0x0002FF0000000220 };
+    destination = record { host = Decoded V4; bytes = 0xD0 ∷ 0xD1 ∷ 0xD2 ∷ 0xD3 ∷ replicate 12 0 };
+    source = record { host = Decoded V4; bytes = 0x50 ∷ 0x51 ∷ 0x52 ∷ 0x53 ∷ replicate 12 0 };
+  };
+}
+
+standardPath : List ℕ
+standardPath = part 36 36 standardPacket
+
+serviceHeaders : ScionHeaders
+serviceHeaders = record {
+  version = 0;
+  «traffic_class» = 0xAB;
+  «flow_id» = 0xF0001;
+  «next_header» = 0x11;
+  «header_length_factor» = 11;
+  «payload_length» = 0;
+  «path_type» = 2;
+  reserved = 0xABCD;
+  address = record {
+    «destination_ia» = record { 0 = 0x0001FF0000000110 };
+    «source_ia» = record { 0 = 0x0002FF0000000220 };
+    destination = record { host = Decoded (Svc (record { 0 = 2 })); bytes = replicate 16 0 };
+    source = record { host = Encoded 1; bytes = 1 ∷ 2 ∷ 3 ∷ 4 ∷ 5 ∷ 6 ∷ 7 ∷ 8 ∷ replicate 8 0 };
+  };
+}
+
+servicePath : List ℕ
+servicePath = part 40 4 servicePacket
+
 answersOf : List ℕ → List ℕ
 answersOf bytes =
     let p = readPacket bytes in
     decodedNumber (p .answer) ∷ p .«path_part» .start ∷ p .«path_part» .len ∷ p .«payload_part» .start ∷ p .«payload_part» .len ∷ []
 
-read-small : answersOf small ≡ 0 ∷ 36 ∷ 0 ∷ 36 ∷ 0 ∷ []
-unfolding bigEndian bytesOf numberAt room
-    meta.nthField meta.metaOf meta.infoFieldsCount meta.hopFieldsCount meta.segmentOf meta.pathLength
-    meta.lengthsValid meta.hopValid meta.infoValid meta.firstRefusal meta.checked meta.settled meta.metaRead meta.readMeta
-    standard.zeroPath standard.pathRefused standard.complete standard.readPath
-    dataplane.unread dataplane.standardRead dataplane.readDataplane
-    common.commonOf common.zeroCommon common.commonRefused common.readCommon common.headerLength common.hostLength
-    address.kindOf address.hostOfKind address.padded address.hostAt address.zeroAddress address.lengthOfKinds address.addressLength address.addressAt address.addressTruncated address.readAddress
-    encoding.commonBytes encoding.serviceBytes encoding.rawOf encoding.hostBytes encoding.addressBytes
-    raw.packetRefused raw.headerEnd raw.afterPath raw.pathFound raw.afterAddress raw.addressFound raw.afterCommon raw.commonFound raw.readPacket
-    headers.addedBytes headers.commonOf headers.headerBytes round.headersOf answersOf small
-read-small = refl
+-- all that is computed: what is read, what is written again, and the premises of the theorems
+record Computed : Type 0 where
+  read-small : answersOf small ≡ 0 ∷ 36 ∷ 0 ∷ 36 ∷ 0 ∷ []
+  read-standard : answersOf standardPacket ≡ 0 ∷ 36 ∷ 36 ∷ 72 ∷ 4 ∷ []
+  read-service : answersOf servicePacket ≡ 0 ∷ 40 ∷ 4 ∷ 44 ∷ 0 ∷ []
+  read-short : answersOf shortPacket ≡ 0 ∷ 36 ∷ 0 ∷ 36 ∷ 0 ∷ []
+  again-small : headers.headerBytes (round.headersOf (readPacket small)) [] ≡ small
+  again-service : headers.headerBytes (round.headersOf (readPacket servicePacket)) servicePath ≡ paddedPacket
+  standard-written : headers.headerBytes standardHeaders standardPath ++ (1 ∷ 2 ∷ 3 ∷ 4 ∷ 5 ∷ []) ≡ standardPacket
+  service-written : headers.headerBytes serviceHeaders servicePath ≡ paddedPacket
+  standard-fills : Fills standardHeaders standardPath
+  service-fills : Fills serviceHeaders servicePath
+  padded-accepted : readPacket paddedPacket .answer ≡ decoded.Accepted
+  padded-zero : Unpadded paddedPacket
+  short-accepted : readPacket shortPacket .answer ≡ decoded.Accepted
+  short-zero : Unpadded shortPacket
 
-read-standard : answersOf standardPacket ≡ 0 ∷ 36 ∷ 36 ∷ 72 ∷ 4 ∷ []
+computed : Computed
 unfolding bigEndian bytesOf numberAt room
     meta.nthField meta.metaOf meta.infoFieldsCount meta.hopFieldsCount meta.segmentOf meta.pathLength
     meta.lengthsValid meta.hopValid meta.infoValid meta.firstRefusal meta.checked meta.settled meta.metaRead meta.readMeta
-    standard.zeroPath standard.pathRefused standard.complete standard.readPath
+    standard.complete standard.readPath
     dataplane.unread dataplane.standardRead dataplane.readDataplane
-    common.commonOf common.zeroCommon common.commonRefused common.readCommon common.headerLength common.hostLength
-    address.kindOf address.hostOfKind address.padded address.hostAt address.zeroAddress address.lengthOfKinds address.addressLength address.addressAt address.addressTruncated address.readAddress
-    encoding.commonBytes encoding.serviceBytes encoding.rawOf encoding.hostBytes encoding.addressBytes
-    raw.packetRefused raw.headerEnd raw.afterPath raw.pathFound raw.afterAddress raw.addressFound raw.afterCommon raw.commonFound raw.readPacket
-    headers.addedBytes headers.commonOf headers.headerBytes round.headersOf answersOf standardPacket
-read-standard = refl
+    common.commonOf common.readCommon common.headerLength common.hostLength
+    address.kindOf address.hostOfKind address.padded address.hostAt address.lengthOfKinds address.addressLength address.addressAt address.readAddress
+    encoding.fieldsFit encoding.commonFits encoding.commonBytes encoding.serviceBytes encoding.rawOf encoding.hostBytes encoding.addressBytes
+    raw.headerEnd raw.afterPath raw.pathFound raw.afterAddress raw.addressFound raw.afterCommon raw.commonFound raw.readPacket
+    headers.addedLength headers.addedBytes headers.headersLength headers.commonOf headers.encoding headers.headerBytes
+    round.headersOf answersOf small standardPacket servicePacket paddedPacket shortPacket standardHeaders standardPath serviceHeaders servicePath
+computed = record {
+  read-small = refl;
+  read-standard = refl;
+  read-service = refl;
+  read-short = refl;
+  again-small = refl;
+  again-service = refl;
+  standard-written = refl;
+  service-written = refl;
+  standard-fills = record { accepted = refl; version = refl; full = refl; path-accepted = refl; path-whole = refl };
+  service-fills = record { accepted = refl; version = refl; full = refl; path-accepted = refl; path-whole = refl };
+  padded-accepted = refl;
+  padded-zero = record { destination = record { padding = λ e. refl }; source = record { padding = λ e. absurd (omega arith) } };
+  short-accepted = refl;
+  short-zero = record { destination = record { padding = λ e. absurd (omega arith) }; source = record { padding = λ e. absurd (omega arith) } };
+}
 
-read-service : answersOf servicePacket ≡ 0 ∷ 40 ∷ 4 ∷ 44 ∷ 0 ∷ []
-unfolding bigEndian bytesOf numberAt room
-    meta.nthField meta.metaOf meta.infoFieldsCount meta.hopFieldsCount meta.segmentOf meta.pathLength
-    meta.lengthsValid meta.hopValid meta.infoValid meta.firstRefusal meta.checked meta.settled meta.metaRead meta.readMeta
-    standard.zeroPath standard.pathRefused standard.complete standard.readPath
-    dataplane.unread dataplane.standardRead dataplane.readDataplane
-    common.commonOf common.zeroCommon common.commonRefused common.readCommon common.headerLength common.hostLength
-    address.kindOf address.hostOfKind address.padded address.hostAt address.zeroAddress address.lengthOfKinds address.addressLength address.addressAt address.addressTruncated address.readAddress
-    encoding.commonBytes encoding.serviceBytes encoding.rawOf encoding.hostBytes encoding.addressBytes
-    raw.packetRefused raw.headerEnd raw.afterPath raw.pathFound raw.afterAddress raw.addressFound raw.afterCommon raw.commonFound raw.readPacket
-    headers.addedBytes headers.commonOf headers.headerBytes round.headersOf answersOf servicePacket
-read-service = refl
+-- THE THEOREMS APPLIED
 
-again-small : headers.headerBytes (round.headersOf (readPacket small)) [] ≡ small
-unfolding bigEndian bytesOf numberAt room
-    meta.nthField meta.metaOf meta.infoFieldsCount meta.hopFieldsCount meta.segmentOf meta.pathLength
-    meta.lengthsValid meta.hopValid meta.infoValid meta.firstRefusal meta.checked meta.settled meta.metaRead meta.readMeta
-    standard.zeroPath standard.pathRefused standard.complete standard.readPath
-    dataplane.unread dataplane.standardRead dataplane.readDataplane
-    common.commonOf common.zeroCommon common.commonRefused common.readCommon common.headerLength common.hostLength
-    address.kindOf address.hostOfKind address.padded address.hostAt address.zeroAddress address.lengthOfKinds address.addressLength address.addressAt address.addressTruncated address.readAddress
-    encoding.commonBytes encoding.serviceBytes encoding.rawOf encoding.hostBytes encoding.addressBytes
-    raw.packetRefused raw.headerEnd raw.afterPath raw.pathFound raw.afterAddress raw.addressFound raw.afterCommon raw.commonFound raw.readPacket
-    headers.addedBytes headers.commonOf headers.headerBytes round.headersOf small
-again-small = refl
+-- a list whose numbers all pass the test is one of bytes
+allBytes : List ℕ → Bool
+allBytes [] = true
+allBytes (x ∷ l) = pick (ltb x 256) (allBytes l) false
 
-again-service : headers.headerBytes (round.headersOf (readPacket servicePacket)) (0x09 ∷ 0x09 ∷ 0x09 ∷ 0x09 ∷ []) ≡ take 30 servicePacket ++ (0x00 ∷ 0x00 ∷ 0x01 ∷ 0x02 ∷ 0x03 ∷ 0x04 ∷ 0x05 ∷ 0x06 ∷ 0x07 ∷ 0x08 ∷ 0x09 ∷ 0x09 ∷ 0x09 ∷ 0x09 ∷ [])
-unfolding bigEndian bytesOf numberAt room
-    meta.nthField meta.metaOf meta.infoFieldsCount meta.hopFieldsCount meta.segmentOf meta.pathLength
-    meta.lengthsValid meta.hopValid meta.infoValid meta.firstRefusal meta.checked meta.settled meta.metaRead meta.readMeta
-    standard.zeroPath standard.pathRefused standard.complete standard.readPath
-    dataplane.unread dataplane.standardRead dataplane.readDataplane
-    common.commonOf common.zeroCommon common.commonRefused common.readCommon common.headerLength common.hostLength
-    address.kindOf address.hostOfKind address.padded address.hostAt address.zeroAddress address.lengthOfKinds address.addressLength address.addressAt address.addressTruncated address.readAddress
-    encoding.commonBytes encoding.serviceBytes encoding.rawOf encoding.hostBytes encoding.addressBytes
-    raw.packetRefused raw.headerEnd raw.afterPath raw.pathFound raw.afterAddress raw.addressFound raw.afterCommon raw.commonFound raw.readPacket
-    headers.addedBytes headers.commonOf headers.headerBytes round.headersOf servicePacket
-again-service = refl
+first-rest : (x : ℕ) (l : List ℕ) → pick (ltb x 256) (allBytes l) false ≡ true → (x < 256) × (allBytes l ≡ true)
+first-rest x l e = go (ltb x 256) refl e
+  where
+    go : (t : Bool) → ltb x 256 ≡ t → pick t (allBytes l) false ≡ true → (x < 256) × (allBytes l ≡ true)
+    go false t e = let z : _≡_ {A = ℕ} 0 1 = cc in absurd (omega arith)
+    go true t e = (ltb-true x 256 t, e)
+
+of-bytes : (l : List ℕ) → allBytes l ≡ true → (i : ℕ) → getD l i 0 < 256
+unfolding allBytes
+of-bytes [] e i = omega arith
+of-bytes (x ∷ l) e zero = first-rest x l e .0
+of-bytes (x ∷ l) e (suc i) = of-bytes l (first-rest x l e .1) i
+
+standard-typed : Typed standardHeaders
+unfolding standardHeaders allBytes
+standard-typed = record {
+  traffic-class = lit< tt;
+  next-header = lit< tt;
+  path-type = lit< tt;
+  reserved = lit< tt;
+  destination-ia = lit< tt;
+  source-ia = lit< tt;
+  destination = record { sixteen = refl; bytes = of-bytes (standardHeaders .address .destination .bytes) refl };
+  source = record { sixteen = refl; bytes = of-bytes (standardHeaders .address .source .bytes) refl };
+}
+
+service-typed : Typed serviceHeaders
+unfolding serviceHeaders allBytes
+service-typed = record {
+  traffic-class = lit< tt;
+  next-header = lit< tt;
+  path-type = lit< tt;
+  reserved = lit< tt;
+  destination-ia = lit< tt;
+  source-ia = lit< tt;
+  destination = record { sixteen = refl; bytes = of-bytes (serviceHeaders .address .destination .bytes) refl };
+  source = record { sixteen = refl; bytes = of-bytes (serviceHeaders .address .source .bytes) refl };
+}
+
+-- a payload of 4 bytes and a byte after it; no payload
+standard-back : readPacket standardPacket ≡ round.packetOf standardHeaders standardPath
+unfolding standardHeaders
+standard-back =
+    rw (computed .standard-written) at (reads-back standardHeaders standardPath (1 ∷ 2 ∷ 3 ∷ 4 ∷ 5 ∷ []) standard-typed (computed .standard-fills) (lit≤ tt))
+
+service-back : readPacket (paddedPacket ++ []) ≡ round.packetOf serviceHeaders servicePath
+unfolding serviceHeaders
+service-back = rw (computed .service-written) at (reads-back serviceHeaders servicePath [] service-typed (computed .service-fills) (lit≤ tt))
+
+padded-again : WrittenAgain paddedPacket
+unfolding allBytes paddedPacket servicePacket
+padded-again = writes-again paddedPacket (of-bytes paddedPacket refl) (computed .padded-accepted) (computed .padded-zero)
+
+short-again : WrittenAgain shortPacket
+unfolding allBytes shortPacket small
+short-again = writes-again shortPacket (of-bytes shortPacket refl) (computed .short-accepted) (computed .short-zero)

@@ -1,1 +1,9 @@
+pub mod Joined
+pub mod Hosts
+pub mod Commons
+pub mod Addresses
+pub mod Stages
+pub mod ReadsBack
+pub mod WritesAgain
+pub mod NewHeaders
 pub mod Examples

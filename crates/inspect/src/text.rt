@@ -1,0 +1,97 @@
+// Text on standard output: a line is a name, padded to a column, and what it says.
+use libc::STDOUT_FILENO;
+use wire_encoding::write::put_u64;
+ghost use Prim.Native.Nat.{_<_};
+
+// The column at which a line's value starts.
+const COLUMN: usize = 24;
+
+pub fn text(text: &[u8]) {
+    io::write_all(STDOUT_FILENO, text);
+}
+
+pub fn number(number: u64) {
+    io::print_decimal(STDOUT_FILENO, number);
+}
+
+// The hexadecimal digit of a number below 16.
+fn glyph(digit: u8) -> u8
+    requires { ⌜ digit < 16 ⌝ }
+{
+    if digit < 10 {
+        b'0' + digit
+    } else {
+        b'a' + (digit - 10)
+    }
+}
+
+// The two hexadecimal digits of a byte.
+fn pair(byte: u8) {
+    text(&[glyph(byte / 16), glyph(byte % 16)]);
+}
+
+// The two digits of each byte; `-` where there is none.
+pub fn hex(bytes: &[u8]) {
+    if bytes.len() == 0 {
+        text(b"-");
+    }
+    let mut i: usize = 0;
+    while i < bytes.len() {
+        pair(bytes[i]);
+        i += 1;
+    }
+}
+
+// A 16-bit number as four digits.
+pub fn hex_16(number: u16) {
+    pair((number / 256) as u8);
+    pair((number % 256) as u8);
+}
+
+// A 64-bit number as sixteen digits.
+pub fn hex_64(number: u64) {
+    let mut bytes = [0; 8];
+    put_u64(&mut bytes, 0, number);
+    hex(&bytes);
+}
+
+// Spaces from a column to the one at which values start.
+fn pad(from: usize) {
+    let mut column = from;
+    while column < COLUMN {
+        text(b" ");
+        column += 1;
+    }
+}
+
+// The name that begins a line.
+pub fn name(name: &[u8]) {
+    text(name);
+    pad(name.len());
+}
+
+// The end of a line.
+pub fn end() {
+    text(b"\n");
+}
+
+// A line with a number.
+pub fn number_line(title: &[u8], value: u64) {
+    name(title);
+    number(value);
+    end();
+}
+
+// A line with words.
+pub fn text_line(title: &[u8], words: &[u8]) {
+    name(title);
+    text(words);
+    end();
+}
+
+// A line with bytes.
+pub fn hex_line(title: &[u8], bytes: &[u8]) {
+    name(title);
+    hex(bytes);
+    end();
+}

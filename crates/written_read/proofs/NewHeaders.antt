@@ -1,0 +1,122 @@
+-- New headers fill their length exactly where their path is a multiple of 4 bytes, as every empty and every standard path is; else the path's last bytes are lost to the payload.
+-- Assumes nothing.
+use mathlib.Core.Path.{_≡_, refl, sym, ap, _∙_}
+use mathlib.Core.List.{List, [], _∷_}
+use Prim.Native.Nat.{ℕ, _*_, _%_}
+use native.Mathlib.Omega.{arith}
+use lib.ListN.{length, drop, replicate}
+use Rattle.wire_encoding.specs.BigEndian.{bigEndian, bytesOf}
+use Rattle.address.specs.declared.host.HostAddr.the-variants.{V4}
+use Rattle.path_header.specs.MetaHeader.{pathLength}
+use Rattle.path_header.specs.Errors.{decodedNumber}
+use Rattle.path_header.specs.declared.error.Decoded.{Decoded as Answer}
+use Rattle.path_header.specs.declared.error.Decoded.the-variants.{Accepted, Refused}
+use Rattle.path.specs.Standard.{readPath}
+use Rattle.path.specs.Dataplane as dataplane
+use Rattle.path.specs.Dataplane.{readDataplane, standardRead}
+use Rattle.packet_header.specs.CommonHeader as common
+use Rattle.packet_header.specs.CommonHeader.{hostLength}
+use Rattle.packet_header.specs.AddressHeader as address
+use Rattle.packet_header.specs.AddressHeader.{lengthOfKinds, addressLength}
+use Rattle.packet_header.specs.Encoding as encode
+use Rattle.packet_header.specs.declared.address_header.MaybeEncoded.the-variants.{Decoded}
+use Rattle.packet_header.specs.declared.address_header.AddressHeader.{AddressHeader}
+use Rattle.packet_header.specs.declared.error.Encoded.the-variants.{Done}
+use Rattle.packet.specs.Raw as raw
+use Rattle.packet.specs.Raw.{readPacket}
+use Rattle.packet.specs.declared.raw.ScionPacketRaw.{ScionPacketRaw}
+use Rattle.headers.specs.Headers.{
+  addedLength,
+  addedBytes,
+  headersLength,
+  newHeaders,
+  commonOf,
+  encoding,
+  headerBytes,
+}
+use Rattle.headers.specs.declared.ScionHeaders.{ScionHeaders}
+use Rattle.written_read.specs.WrittenRead.{Fills}
+
+-- WHERE THEY FILL IT
+
+module _ (a : AddressHeader) (type : ℕ) (path : List ℕ) (next payload flow : ℕ) where
+  abbrev new : ScionHeaders
+  new = newHeaders a type (length path) next payload flow
+
+  -- the fixed headers are a multiple of 4
+  pub new-full : addedLength type (length path) % 4 ≡ 0 → new .«header_length_factor» * 4 ≡ headersLength a type (length path)
+  unfolding newHeaders headersLength addressLength lengthOfKinds hostLength
+  new-full four = omega arith
+
+  pub full-four : new .«header_length_factor» * 4 ≡ headersLength a type (length path) → addedLength type (length path) % 4 ≡ 0
+  unfolding headersLength addressLength lengthOfKinds hostLength
+  full-four full = omega arith
+
+  pub new-fills : addedLength type (length path) % 4 ≡ 0 → encoding new (length path) (headersLength a type (length path)) ≡ Done
+      → readDataplane type (addedBytes type path) .answer ≡ Accepted
+      → readDataplane type (addedBytes type path) .length ≡ length (addedBytes type path)
+      → Fills new path
+  unfolding newHeaders
+  new-fills four accepted path-accepted path-whole = record {
+    accepted = accepted;
+    version = refl;
+    full = new-full four;
+    path-accepted = path-accepted;
+    path-whole = path-whole;
+  }
+
+-- an empty path and a standard path
+pub empty-four : (n : ℕ) → addedLength 0 n % 4 ≡ 0
+unfolding addedLength
+empty-four n = refl
+
+standard-four : (path : List ℕ) → readDataplane 1 path .length % 4 ≡ 0
+unfolding readDataplane standardRead pathLength
+standard-four path = go (readPath path .answer)
+  where
+    go : (answer : Answer) → standardRead answer (readPath path .path) .length % 4 ≡ 0
+    go Accepted = omega arith
+    go (Refused error) = refl
+
+pub standard-whole-four : (path : List ℕ) → readDataplane 1 path .length ≡ length path → addedLength 1 (length path) % 4 ≡ 0
+unfolding addedLength
+standard-whole-four path whole = ap (λ (n : ℕ). n % 4) (sym whole) ∙ standard-four path
+
+-- WHERE THEY DON'T
+
+-- two IPv4 hosts, an opaque path of 3 bytes, no payload
+abbrev hosts : AddressHeader
+hosts = record {
+  «destination_ia» = record { 0 = 1 };
+  «source_ia» = record { 0 = 2 };
+  destination = record { host = Decoded V4; bytes = replicate 16 0 };
+  source = record { host = Decoded V4; bytes = replicate 16 0 };
+}
+
+abbrev short : ScionHeaders
+short = newHeaders hosts 2 3 17 0 1
+
+abbrev written : List ℕ
+written = headerBytes short (7 ∷ 8 ∷ 9 ∷ [])
+
+-- the answer, the factor, where the path lies and where the payload
+abbrev found : ScionPacketRaw → List ℕ
+found p =
+    decodedNumber (p .answer)
+    ∷ p .common .«header_length_factor»
+    ∷ p .«path_part» .start
+    ∷ p .«path_part» .len
+    ∷ p .«payload_part» .start
+    ∷ p .«payload_part» .len
+    ∷ []
+
+-- they are written; the path is read as 0 bytes, and its 3 bytes follow the headers
+pub lost : (encoding short 3 39 ≡ Done) × (found (readPacket written) ≡ 0 ∷ 9 ∷ 36 ∷ 0 ∷ 36 ∷ 0 ∷ []) × (drop 36 written ≡ 7 ∷ 8 ∷ 9 ∷ [])
+unfolding bigEndian bytesOf
+    dataplane.unread dataplane.readDataplane
+    common.commonOf common.readCommon common.headerLength common.hostLength
+    address.kindOf address.lengthOfKinds address.addressLength address.readAddress
+    encode.fieldsFit encode.commonFits encode.commonBytes encode.rawOf encode.hostBytes encode.addressBytes
+    raw.headerEnd raw.afterPath raw.pathFound raw.afterAddress raw.addressFound raw.afterCommon raw.commonFound raw.readPacket
+    addedLength addedBytes headersLength newHeaders commonOf encoding headerBytes
+lost = (refl, refl, refl)
