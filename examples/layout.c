@@ -111,6 +111,8 @@ int main(void) {
         && h.flow_id == 0x33343 && h.header_length_factor == 37 && h.payload_length == 0x32
         && h.destination_ia == 0x1112131415161718 && h.source_ia == 0x2122232425262728 && is_host(h.destination, 3, 0, to.bytes, 16)
         && is_host(h.source, 4, 0xABCD, from.bytes, 16) && scion_headers_length(h, len) == 148);
+    a = scion_write_new_headers(0x1112131415161718, to, 0x2122232425262728, from, 1, 0x31, 0x32, 0x33343, path, len, dst, 148);
+    CHECK(a.number == 0 && scion_write_headers(h, path, len, b, 148).number == 0 && memcmp(dst, b, 148) == 0);
     h.traffic_class = 0x41;
     h.reserved = 0x4243;
     a = scion_write_headers(h, path, len, b, 148);

@@ -211,6 +211,11 @@ ScionHeaders scion_new_headers(uint64_t destination_ia, ScionHost destination, u
 size_t scion_headers_length(ScionHeaders headers, size_t path_len);
 ScionAnswer scion_write_headers(ScionHeaders headers, const uint8_t *path, size_t path_len, uint8_t *dst, size_t dst_len);
 
+/* The headers that `scion_new_headers` makes for the path, written in one call. */
+ScionAnswer scion_write_new_headers(uint64_t destination_ia, ScionHost destination, uint64_t source_ia, ScionHost source,
+                                    uint8_t path_type, uint8_t next_header, size_t payload_length, uint32_t flow_id,
+                                    const uint8_t *path, size_t path_len, uint8_t *dst, size_t dst_len);
+
 #ifdef __cplusplus
 }
 #endif

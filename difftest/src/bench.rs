@@ -158,10 +158,9 @@ fn write_row(inputs: &Inputs) -> (Option<Loop>, Loop) {
     (Some(rust), ours)
 }
 
-/// The library making and writing headers.
+/// The library making and writing headers, in one call.
 fn write_ours(ends: &Ends, path: &[u8], room: &mut [u8]) {
-    let headers = calls::new_headers(ends, 1, path.len(), 17, 64, 1);
-    black_box(calls::write_headers(&headers, path, black_box(room)));
+    black_box(calls::write_new_headers(ends, 1, 17, 64, 1, path, black_box(room)));
 }
 
 /// A single move from the start, the changed bytes put back before it.

@@ -299,6 +299,24 @@ impl Checker {
         let input = Input { path_type: headers.path_type, bytes: path };
         self.destined(Call::WriteHeaders, input, (size, headers), expected, answer);
     }
+
+    /// Headers made for a path and written in one call: what the Rust writes of the headers that it makes.
+    pub fn write_new_headers(&mut self, ends: &Ends, headers: &Headers, path: &[u8], size: usize) {
+        self.source.set(path);
+        self.dst.set_filled(0xee, size);
+        let expected = oracle::write::write_headers(headers, path, self.dst.expected_mut());
+        let answer = calls::write_new_headers(
+            ends,
+            headers.path_type,
+            headers.next_header,
+            headers.payload_length,
+            headers.flow_id,
+            self.source.bytes(),
+            self.dst.bytes_mut(),
+        );
+        let input = Input { path_type: headers.path_type, bytes: path };
+        self.destined(Call::WriteNewHeaders, input, (size, headers), expected, answer);
+    }
 }
 
 /// A hop field's ingress and egress by direction and its expiry, from the library's values by document 01.

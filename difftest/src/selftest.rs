@@ -42,7 +42,7 @@ fn answer_bytes(call: Call) -> Vec<usize> {
         Call::ReadPacket => bytes_of::<Packet>(),
         Call::NewHeaders => bytes_of::<Headers>(),
         Call::HeadersLength => bytes_of::<usize>(),
-        Call::WriteHeaders => bytes_of::<Answer>(),
+        Call::WriteHeaders | Call::WriteNewHeaders => bytes_of::<Answer>(),
     }
 }
 

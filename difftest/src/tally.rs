@@ -27,10 +27,11 @@ pub enum Call {
     NewHeaders,
     HeadersLength,
     WriteHeaders,
+    WriteNewHeaders,
 }
 
 /// Every call, in the order of the tables.
-pub const CALLS: [Call; 19] = [
+pub const CALLS: [Call; 20] = [
     Call::ReadPath,
     Call::InfoField,
     Call::HopField,
@@ -50,6 +51,7 @@ pub const CALLS: [Call; 19] = [
     Call::NewHeaders,
     Call::HeadersLength,
     Call::WriteHeaders,
+    Call::WriteNewHeaders,
 ];
 
 /// Where the Rust gives no answer to compare with, and document 01 decides. There are no others.

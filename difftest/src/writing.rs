@@ -13,6 +13,10 @@ fn make_and_write(checker: &mut Checker, random: &mut Random, kinds: u8, input: 
     let flow_id = random.pick(&[0, 1, 0xf_ffff, random.clone().next() as u32 & 0xf_ffff]);
     let headers = checker.new_headers(&ends, input, next_header, payload, flow_id);
     write_sizes(checker, &headers, input.bytes);
+    let exact = checker.headers_length(&headers, input.bytes);
+    for size in [exact, exact - 1, exact + 1] {
+        checker.write_new_headers(&ends, &headers, input.bytes, size);
+    }
     headers
 }
 

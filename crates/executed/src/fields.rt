@@ -1,11 +1,11 @@
 // Calls on info fields and hop fields.
 use crate::print;
 use crate::words;
-use path_header::fields::HopField;
-use path_header::fields::HopFieldRead;
-use path_header::fields::InfoField;
-use path_header::fields::InfoFieldRead;
-use path_header::fields::expiry;
+use path_fields::HopField;
+use path_fields::HopFieldRead;
+use path_fields::InfoField;
+use path_fields::InfoFieldRead;
+use path_fields::expiry;
 
 // The info field of word `k`.
 fn info_at(line: &[u8], k: usize) -> InfoFieldRead {

@@ -5,6 +5,7 @@ mod meta_headers;
 mod packets;
 mod paths;
 mod print;
+mod runs;
 mod travel;
 mod values;
 mod words;
@@ -31,6 +32,9 @@ fn answer(line: &[u8]) {
         return;
     }
     if travel::answer(line) {
+        return;
+    }
+    if runs::answer(line) {
         return;
     }
     if meta_headers::answer(line) {

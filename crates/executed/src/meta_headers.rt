@@ -1,11 +1,11 @@
 // Calls on the meta header of a path.
 use crate::print;
 use crate::words;
-use path_header::meta_header::Encoded;
-use path_header::meta_header::HopFieldOf;
-use path_header::meta_header::Offset;
-use path_header::meta_header::PathMetaHeader;
-use path_header::meta_header::Word;
+use path_meta_header::Encoded;
+use path_meta_header::HopFieldOf;
+use path_meta_header::Offset;
+use path_meta_header::PathMetaHeader;
+use path_meta_header::Word;
 
 // The pointers, the reserved bits and the three lengths.
 pub fn record(meta_header: PathMetaHeader) {

@@ -5,13 +5,13 @@ use crate::words;
 use address::host::HostAddr;
 use address::ia::IsdAsn;
 use address::service::ServiceAddr;
+use address_header::AddressHeader;
+use address_header::HostAddress;
+use address_header::MaybeEncoded;
+use common_header::CommonHeader;
+use common_header::error::Encoded;
 use headers::ScionHeaders;
 use packet::raw::ScionPacketRaw;
-use packet_header::address_header::AddressHeader;
-use packet_header::address_header::HostAddress;
-use packet_header::address_header::MaybeEncoded;
-use packet_header::common_header::CommonHeader;
-use packet_header::error::Encoded;
 ghost use Prim.Native.Nat.{_<_};
 
 // Document 01's number of an answer to writing.

@@ -3,10 +3,10 @@ use crate::meta_headers;
 use crate::print;
 use crate::words;
 use path::dataplane::DataplanePath;
-use path::dataplane::Expiry;
 use path::dataplane::Located;
 use path::dataplane::PathAnswer;
 use path::standard::Part;
+use path_expiry::Expiry;
 
 // The path whose type stands in word 1.
 fn path_of(line: &[u8]) -> DataplanePath {
@@ -80,21 +80,25 @@ fn expiry(expiry: Expiry) {
 fn segexp(line: &[u8]) {
     let mut room = words::room();
     let length = words::bytes_at(line, 2, &mut room);
-    expiry(path_of(line).segment_expiry_time(&room[..length], words::index_at(line, 3)));
+    expiry(path_expiry::segment_expiry_time(
+        path_of(line),
+        &room[..length],
+        words::index_at(line, 3),
+    ));
 }
 
 // `pathexp T B`: when the path expires.
 fn pathexp(line: &[u8]) {
     let mut room = words::room();
     let length = words::bytes_at(line, 2, &mut room);
-    expiry(path_of(line).expiry_time(&room[..length]));
+    expiry(path_expiry::expiry_time(path_of(line), &room[..length]));
 }
 
 // `left T B now`: the time left.
 fn left(line: &[u8]) {
     let mut room = words::room();
     let length = words::bytes_at(line, 2, &mut room);
-    let left = path_of(line).time_left(&room[..length], words::u64_at(line, 3));
+    let left = path_expiry::time_left(path_of(line), &room[..length], words::u64_at(line, 3));
     let answer = left.answer;
     print::answer(answer);
     print::signed(left.ms);
@@ -104,7 +108,7 @@ fn left(line: &[u8]) {
 fn ifcount(line: &[u8]) {
     let mut room = words::room();
     let length = words::bytes_at(line, 2, &mut room);
-    let count = path_of(line).interfaces_count(&room[..length]);
+    let count = path_interfaces::interfaces_count(path_of(line), &room[..length]);
     let answer = count.answer;
     print::answer(answer);
     print::number(count.count as u64);
@@ -114,7 +118,7 @@ fn ifcount(line: &[u8]) {
 fn iface(line: &[u8]) {
     let mut room = words::room();
     let length = words::bytes_at(line, 2, &mut room);
-    let at = path_of(line).interface(&room[..length], words::index_at(line, 3));
+    let at = path_interfaces::interface(path_of(line), &room[..length], words::index_at(line, 3));
     let answer = at.answer;
     let interface = at.interface;
     print::answer(answer);
@@ -131,9 +135,9 @@ fn alerted(
     enable: bool,
 ) -> PathAnswer {
     if is_ingress {
-        return path.set_cons_ingress_router_alert(bytes, index, enable);
+        return path_interfaces::set_cons_ingress_router_alert(path, bytes, index, enable);
     }
-    path.set_cons_egress_router_alert(bytes, index, enable)
+    path_interfaces::set_cons_egress_router_alert(path, bytes, index, enable)
 }
 
 // `alert T B i k n`: the bytes with the ingress (k 1) or egress (k 0) alert flag of hop field i set to n.

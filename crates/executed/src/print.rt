@@ -1,8 +1,8 @@
 // Answers on standard output: each number or byte string after a space.
 use libc::STDOUT_FILENO;
-use path_header::error::Answer;
-use path_header::error::Decoded;
-use path_header::fields::Interface;
+use path_error::Answer;
+use path_error::Decoded;
+use path_fields::Interface;
 ghost use Prim.Native.Nat.{_<_};
 
 // A number in decimal.

@@ -1,34 +1,36 @@
 -- Headers that the tests let through: each part of them is written, and the parts fill the destination.
 -- Assumes nothing.
-use mathlib.Core.Path.{_≡_, refl, sym, ap, _∙_}
+use mathlib.Core.Path.{_≡_, refl, sym, ap, ap₂, _∙_}
 use mathlib.Core.Bool.{Bool, true, false}
-use mathlib.Core.List.{List, [], _++_, append-assoc}
+use mathlib.Core.List.{List, [], _++_}
 use Prim.Native.Nat.{ℕ, _+_, _-_, _/_, _≤_}
-use native.Mathlib.Nat.{zero-add, sub-zero, add-sub-cancel-left}
+use native.Mathlib.Nat.{zero-add, sub-zero}
 use native.Mathlib.Omega.{arith}
 use lib.ListN.{length, take, drop, length-append}
 use lib.Seq.{sets, sets-eq, take-length, length-take-le, length-sets}
 use lib.Dec.{ltb, eqb}
-use borrow.Rule.Slice.PartMut.{putMid, post-is}
-use borrow.Author.Tests.{lt-ltb, ltb-false, eq-eqb, eqb-true}
+use borrow.Author.Tests.{ltb-false, eqb-true}
 use Rattle.wire_encoding.specs.Choice.{pick}
-use Rattle.wire_encoding.specs.BigEndian.{part, placed}
-use Rattle.wire_encoding.proofs.Parts.{length-part, sets-append, sets-whole}
+use Rattle.wire_encoding.specs.BigEndian.{placed}
+use Rattle.wire_encoding.proofs.Parts.{sets-append, sets-whole}
 use Rattle.wire_encoding.proofs.Writes.{placed-is}
-use Rattle.packet_header.specs.CommonHeader.{hostLength}
-use Rattle.packet_header.specs.AddressHeader.{addressLength, lengthOfKinds}
-use Rattle.packet_header.specs.Encoding.{encoded, commonFits, commonBytes, commonEncoding, addressFits, addressBytes, addressEncoding}
-use Rattle.packet_header.specs.declared.common_header.CommonHeader.{CommonHeader}
-use Rattle.packet_header.specs.declared.address_header.AddressHeader.{AddressHeader}
-use Rattle.packet_header.specs.declared.error.Encoded.the-variants.{Done, Refused}
-use Rattle.packet_header.specs.declared.error.EncodeError.the-variants.{
+use Rattle.common_header.specs.CommonHeader.{hostLength}
+use Rattle.address_header.specs.AddressHeader.{addressLength, lengthOfKinds}
+use Rattle.common_header.specs.Encoding.{encoded, fieldsFit, commonFits, commonBytes, commonEncoding}
+use Rattle.address_header.specs.Encoding.{hostOnWire, onWire, wireLength, wireBytes, addressBytes}
+use Rattle.common_header.specs.declared.CommonHeader.{CommonHeader}
+use Rattle.address_header.specs.declared.AddressHeader.{AddressHeader}
+use Rattle.address_header.specs.declared.WireAddress.{WireAddress}
+use Rattle.common_header.specs.declared.error.Encoded.the-variants.{Done, Refused}
+use Rattle.common_header.specs.declared.error.EncodeError.the-variants.{
   NumberTooWide,
   InvalidHeaderLength,
   HeaderTooLarge,
   PayloadTooLarge,
   InadequateBufferSize,
 }
-use Rattle.packet_header.proofs.EncodingLaws.{not-done, Widths, common-widths, length-commonBytes, Sixteen, length-addressBytes}
+use Rattle.common_header.proofs.EncodingLaws.{not-done, length-commonBytes}
+use Rattle.address_header.proofs.EncodingLaws.{Sixteen, wire-length, length-addressBytes, sets-apart}
 use Rattle.headers.specs.declared.ScionHeaders.{ScionHeaders}
 use Rattle.headers.specs.Headers.{addedLength, addedBytes, headersLength, commonOf, encoding, headerBytes, Narrow}
 
@@ -71,27 +73,25 @@ module _ (h : ScionHeaders) (n size : ℕ) (k : Known h n size) where
   pub narrow : Narrow h
   narrow = record { factor = k .factor; payload = k .payload }
 
-  -- so each header is written
+  -- so the common header is written
   pub common-writes : commonEncoding (commonOf h) 12 ≡ Done
   unfolding commonEncoding commonOf
   common-writes = rw (k .fits, k .not-zero)
 
-  pub address-writes : addressEncoding (h .address) (addressLength (h .address)) ≡ Done
-  unfolding addressEncoding addressFits commonOf
-  address-writes =
-      let w : Widths (commonOf h) = common-widths (commonOf h) (k .fits) in
-      rw (lt-ltb _ _ (w .destination), lt-ltb _ _ (w .source), eq-eqb (addressLength (h .address)) _ refl)
+-- THE ADDRESS HEADER AS IT IS ON THE WIRE
 
--- PARTS LENT
+module _ (h : ScionHeaders) (wire : WireAddress) (on : wire ≡ onWire (h .address)) where
+  -- its kinds are the common header's
+  pub fits-kinds : fieldsFit (h .version) (h .«flow_id») (wire .destination .kind) (wire .source .kind) ≡ commonFits (commonOf h)
+  unfolding commonFits commonOf onWire hostOnWire
+  fits-kinds = ap (λ (w : WireAddress). fieldsFit (h .version) (h .«flow_id») (w .destination .kind) (w .source .kind)) on
 
--- a part that was lent to be written, from q to q + n, is a write of what came back
-pub lent-back : (q n : ℕ) (xs ys : List ℕ) → length ys ≡ n → q + n ≤ length xs → putMid q (q + n - q) xs ys ≡ sets xs q ys
-lent-back q n xs ys e h =
-    ap (λ (r : List ℕ). take q xs ++ (ys ++ r)) (post-is q (q + n) xs (omega arith) ∙ ap (λ (m : ℕ). drop (q + m) xs) (sym e))
-    ∙ sym (append-assoc (take q xs) ys (drop (q + length ys) xs))
-    ∙ sym (sets-eq ys xs q (omega arith))
+  pub length-on-wire : wireLength wire ≡ addressLength (h .address)
+  length-on-wire = ap wireLength on ∙ wire-length (h .address)
 
--- what the callee left in the part: the header's bytes
+-- A PART LENT
+
+-- what the callee left in the first twelve bytes: the common header
 pub common-lent : (c : CommonHeader) (dst : List ℕ) {back : List ℕ} → commonEncoding c 12 ≡ Done → 12 ≤ length dst
     → back ≡ encoded (commonEncoding c (length (take 12 dst))) (commonBytes c) (take 12 dst) → back ++ drop 12 dst ≡ sets dst 0 (commonBytes c)
 unfolding encoded
@@ -100,17 +100,6 @@ common-lent c dst {back} done room e =
     let whole : back ≡ commonBytes c = rw (size, done) at e in
     let l : length (commonBytes c) ≡ 12 = length-commonBytes c in
     rw whole (ap (λ (m : ℕ). commonBytes c ++ drop m dst) (sym l ∙ sym (zero-add (length (commonBytes c)))) ∙ sym (sets-eq (commonBytes c) dst 0 (omega arith)))
-
-pub address-lent : (a : AddressHeader) → Sixteen a → (dst : List ℕ) {back : List ℕ} → addressEncoding a (addressLength a) ≡ Done
-    → 12 + addressLength a ≤ length dst
-    → back ≡ encoded (addressEncoding a (length (part 12 (12 + addressLength a - 12) dst))) (addressBytes a) (part 12 (12 + addressLength a - 12) dst)
-    → putMid 12 (12 + addressLength a - 12) dst back ≡ sets dst 12 (addressBytes a)
-unfolding encoded
-address-lent a s dst {back} done room e =
-    let size : length (part 12 (12 + addressLength a - 12) dst) ≡ addressLength a =
-    length-part 12 (12 + addressLength a - 12) dst (omega arith) ∙ add-sub-cancel-left 12 (addressLength a) in
-    let whole : back ≡ addressBytes a = rw (size, done) at e in
-    rw whole (lent-back 12 (addressLength a) dst (addressBytes a) (length-addressBytes a s) room)
 
 -- LENGTHS
 
@@ -153,9 +142,9 @@ length-headerBytes h path s =
     let p = length-addedBytes (h .«path_type») path in
     simp length-append (omega arith)
 
--- the three parts written one after the other fill the destination
+-- the three parts written beside each other fill the destination
 pub all-written : (h : ScionHeaders) (path dst : List ℕ) → Sixteen (h .address) → length dst ≡ headersLength (h .address) (h .«path_type») (length path)
-    → sets (sets (sets dst 0 (commonBytes (commonOf h))) 12 (addressBytes (h .address))) (12 + addressLength (h .address)) (addedBytes (h .«path_type») path)
+    → sets (sets (sets dst 12 (addressBytes (h .address))) 0 (commonBytes (commonOf h))) (12 + addressLength (h .address)) (addedBytes (h .«path_type») path)
     ≡ headerBytes h path
 unfolding headerBytes
 all-written h path dst s size =
@@ -167,21 +156,27 @@ all-written h path dst s size =
     let whole : sets dst 0 (x ++ (y ++ z)) ≡ x ++ (y ++ z) = sets-whole (x ++ (y ++ z)) dst (length-headerBytes h path s ∙ sym size) in
     let apart : sets dst 0 (x ++ (y ++ z)) ≡ sets (sets (sets dst 0 x) (0 + length x) y) (0 + length x + length y) z =
     sets-append x (y ++ z) dst 0 ∙ sets-append y z (sets dst 0 x) (0 + length x) in
-    sym (rw (one, two) at apart) ∙ whole
+    ap (λ (l : List ℕ). sets l (12 + addressLength (h .address)) z) (sym (sets-apart x y dst 0 12 (omega arith)))
+    ∙ sym (rw (one, two) at apart)
+    ∙ whole
 
 -- the three writes of a function that calls for each of them; the path's part is lent from 0 on
-pub three-written : (h : ScionHeaders) (path dst : List ℕ) → Sixteen (h .address) → length dst ≡ headersLength (h .address) (h .«path_type») (length path)
-    → {one two three : List ℕ} → one ≡ sets dst 0 (commonBytes (commonOf h)) → two ≡ sets one 12 (addressBytes (h .address))
-    → three ≡ placed two (12 + addressLength (h .address)) (take (addedLength (h .«path_type») (length path) - 0) path) → three ≡ headerBytes h path
-unfolding headersLength
-three-written h path dst s size {one} {two} {three} e1 e2 e3 =
-    let fixed = 12 + addressLength (h .address) in
+pub three-written : (h : ScionHeaders) (wire : WireAddress) → wire ≡ onWire (h .address) → (path dst : List ℕ) → Sixteen (h .address)
+    → length dst ≡ headersLength (h .address) (h .«path_type») (length path) → {one two three : List ℕ} → one ≡ placed dst 12 (wireBytes wire)
+    → two ≡ sets one 0 (commonBytes (commonOf h))
+    → three ≡ placed two (12 + wireLength wire) (take (addedLength (h .«path_type») (length path) - 0) path) → three ≡ headerBytes h path
+unfolding headersLength addressBytes
+three-written h wire on path dst s size {one} {two} {three} e1 e2 e3 =
+    let a = h .address in
+    let fixed : ℕ = 12 + addressLength a in
     let added = addedBytes (h .«path_type») path in
+    let long : 12 + wireLength wire ≡ fixed = ap (λ (n : ℕ). 12 + n) (length-on-wire h wire on) in
     let run : take (addedLength (h .«path_type») (length path) - 0) path ≡ added = rw sub-zero (added-part (h .«path_type») path) in
-    let kept : length two ≡ length dst = ap length e2 ∙ length-sets one 12 (addressBytes (h .address)) ∙ ap length e1 ∙ length-sets dst 0 (commonBytes (commonOf h)) in
-    let room : fixed + addedLength (h .«path_type») (length path) ≤ length two = omega (arith, size, kept) in
+    let first : one ≡ sets dst 12 (addressBytes a) =
+    e1 ∙ ap (λ (w : WireAddress). placed dst 12 (wireBytes w)) on ∙ placed-is dst 12 (addressBytes a) (addressLength a) (length-addressBytes a s) (omega (arith, size)) in
+    let kept : length two ≡ length dst = ap length e2 ∙ length-sets one 0 (commonBytes (commonOf h)) ∙ ap length first ∙ length-sets dst 12 (addressBytes a) in
     e3
-    ∙ ap (placed two fixed) run
-    ∙ placed-is two fixed added (addedLength (h .«path_type») (length path)) (length-addedBytes (h .«path_type») path) room
-    ∙ ap (λ (l : List ℕ). sets l fixed added) (e2 ∙ ap (λ (l : List ℕ). sets l 12 (addressBytes (h .address))) e1)
+    ∙ ap₂ (placed two) long run
+    ∙ placed-is two fixed added (addedLength (h .«path_type») (length path)) (length-addedBytes (h .«path_type») path) (omega (arith, size, kept))
+    ∙ ap (λ (l : List ℕ). sets l fixed added) (e2 ∙ ap (λ (l : List ℕ). sets l 0 (commonBytes (commonOf h))) first)
     ∙ all-written h path dst s size

@@ -4,13 +4,14 @@ use mathlib.Core.Path.{_≡_}
 use mathlib.Core.List.{List, [], _++_}
 use lib.Dec.{ltb, eqb}
 use Rattle.wire_encoding.specs.Choice.{pick}
-use Rattle.packet_header.specs.AddressHeader.{kindOf, addressLength}
-use Rattle.packet_header.specs.Encoding.{commonFits, commonBytes, addressBytes}
-use Rattle.packet_header.specs.declared.common_header.CommonHeader.{CommonHeader}
-use Rattle.packet_header.specs.declared.address_header.AddressHeader.{AddressHeader}
-use Rattle.packet_header.specs.declared.error.Encoded.{Encoded}
-use Rattle.packet_header.specs.declared.error.Encoded.the-variants.{Done, Refused}
-use Rattle.packet_header.specs.declared.error.EncodeError.the-variants.{
+use Rattle.address_header.specs.AddressHeader.{kindOf, addressLength}
+use Rattle.common_header.specs.Encoding.{commonFits, commonBytes}
+use Rattle.address_header.specs.Encoding.{addressBytes}
+use Rattle.common_header.specs.declared.CommonHeader.{CommonHeader}
+use Rattle.address_header.specs.declared.AddressHeader.{AddressHeader}
+use Rattle.common_header.specs.declared.error.Encoded.{Encoded}
+use Rattle.common_header.specs.declared.error.Encoded.the-variants.{Done, Refused}
+use Rattle.common_header.specs.declared.error.EncodeError.the-variants.{
   NumberTooWide,
   InvalidHeaderLength,
   HeaderTooLarge,

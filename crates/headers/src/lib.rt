@@ -1,17 +1,19 @@
 // All headers of a packet, put together and written.
-use packet_header::address_header::AddressHeader;
-use packet_header::common_header::CommonHeader;
-use packet_header::common_header::fields_fit;
-use packet_header::error::EncodeError;
-use packet_header::error::Encoded;
+use address_header::AddressHeader;
+use address_header::WireAddress;
+use common_header::CommonHeader;
+use common_header::error::EncodeError;
+use common_header::error::Encoded;
+use common_header::fields_fit;
 use wire_encoding::write::put_slice;
 ghost use mathlib.Core.Path.{_≡_};
 ghost use Prim.Native.Nat.{_+_, _≤_};
+ghost use lib.Dec.{eqb};
 ghost use lib.ListN.{length};
 ghost use lib.Seq.{sets};
-ghost use Rattle.packet_header.specs.AddressHeader.{addressLength};
-ghost use Rattle.packet_header.specs.Encoding.{encoded, commonEncoding, commonBytes, addressEncoding, addressBytes};
-ghost use Rattle.packet_header.specs.declared.error.Encoded.the-variants.{Done};
+ghost use Rattle.common_header.specs.Encoding.{encoded, commonEncoding, commonBytes};
+ghost use Rattle.address_header.specs.Encoding.{onWire};
+ghost use Rattle.common_header.specs.declared.error.Encoded.the-variants.{Done};
 ghost use Rattle.headers.specs.Headers as spec;
 
 // The headers of a packet but for its path, which stands beside them. The host kinds are the hosts' own. Factor and payload
@@ -38,21 +40,22 @@ fn path_length(path_type: u8, path_len: usize) -> usize
     path_len
 }
 
+// Whether two runs of these lengths fill `size` bytes; their sum need not be a number.
+fn fills(fixed: usize, added: usize, size: usize) -> bool
+    ensures { λ r. ⌜ r ≡ eqb size (fixed + added) ⌝ }
+{
+    if size < fixed {
+        return false;
+    }
+    size - fixed == added
+}
+
 // Writes a common header to the first bytes.
 fn put_common(header: CommonHeader, dst: &mut [u8])
     requires { ⌜ (commonEncoding header 12 ≡ Done) × (12 ≤ length (now dst)) ⌝ }
     ensures { λ _. ⌜ now (dst .exit) ≡ sets (now (dst .entry)) 0 (commonBytes header) ⌝ }
 {
     header.encode_to(&mut dst[0..CommonHeader::LENGTH]);
-}
-
-// Writes an address header after the common header.
-fn put_address(header: AddressHeader, dst: &mut [u8])
-    requires { ⌜ (addressEncoding header (addressLength header) ≡ Done) × (12 + addressLength header ≤ length (now dst)) ⌝ }
-    ensures { λ _. ⌜ now (dst .exit) ≡ sets (now (dst .entry)) 12 (addressBytes header) ⌝ }
-{
-    let end = CommonHeader::LENGTH + header.encoded_length();
-    header.encode_to(&mut dst[CommonHeader::LENGTH..end]);
 }
 
 impl ScionHeaders {
@@ -86,8 +89,7 @@ impl ScionHeaders {
     pub fn encoded_length(self, path_len: usize) -> usize
         ensures { λ r. ⌜ r ≡ spec.encodedLength self «path_len» ⌝ }
     {
-        let address = self.address;
-        let fixed = CommonHeader::LENGTH + address.encoded_length();
+        let fixed = CommonHeader::LENGTH + self.address.encoded_length();
         let added = path_length(self.path_type, path_len);
         if added <= 0xFFFF_FFFF_FFFF_FFFF - fixed {
             return fixed + added;
@@ -95,14 +97,11 @@ impl ScionHeaders {
         0xFFFF_FFFF_FFFF_FFFF
     }
 
-    // The common header, of a factor below 256 and a payload length below 65,536.
-    fn common(self) -> CommonHeader
-        requires { ⌜ spec.Narrow self ⌝ }
+    // The common header, of a factor below 256 and a payload length below 65,536; `wire` is the address header.
+    fn common(self, wire: WireAddress) -> CommonHeader
+        requires { ⌜ spec.Narrow self × (wire ≡ onWire (self .address)) ⌝ }
         ensures { λ r. ⌜ r ≡ spec.commonOf self ⌝ }
     {
-        let address = self.address;
-        let destination = address.destination;
-        let source = address.source;
         CommonHeader {
             version: self.version,
             traffic_class: self.traffic_class,
@@ -111,24 +110,22 @@ impl ScionHeaders {
             header_length_factor: self.header_length_factor as u8,
             payload_length: self.payload_length as u16,
             path_type: self.path_type,
-            destination_kind: destination.kind(),
-            source_kind: source.kind(),
+            destination_kind: wire.destination.kind,
+            source_kind: wire.source.kind,
             reserved: self.reserved,
         }
     }
 
-    // Whether the headers can be written with a path of `path_len` bytes to `size` bytes.
-    fn check(self, path_len: usize, size: usize) -> Encoded
+    // Whether the headers can be written with a path of `path_len` bytes to `size` bytes; `wire` is the address header.
+    fn check(self, wire: WireAddress, path_len: usize, size: usize) -> Encoded
+        requires { ⌜ wire ≡ onWire (self .address) ⌝ }
         ensures { λ r. ⌜ r ≡ spec.encoding self «path_len» size ⌝ }
     {
-        let address = self.address;
-        let destination = address.destination;
-        let source = address.source;
         if !fields_fit(
             self.version,
             self.flow_id,
-            destination.kind(),
-            source.kind(),
+            wire.destination.kind,
+            wire.source.kind,
         ) {
             return Encoded::Refused(EncodeError::NumberTooWide);
         }
@@ -141,27 +138,24 @@ impl ScionHeaders {
         if 65535 < self.payload_length {
             return Encoded::Refused(EncodeError::PayloadTooLarge);
         }
-        let fixed = CommonHeader::LENGTH + address.encoded_length();
-        if size < fixed {
-            return Encoded::Refused(EncodeError::InadequateBufferSize);
-        }
-        if size - fixed == path_length(self.path_type, path_len) {
+        let fixed = CommonHeader::LENGTH + wire.encoded_length();
+        let added = path_length(self.path_type, path_len);
+        if fills(fixed, added, size) {
             return Encoded::Done;
         }
         Encoded::Refused(EncodeError::InadequateBufferSize)
     }
 
-    // Writes the headers and the path after them, which fill the destination.
-    fn put(self, path: &[u8], dst: &mut [u8])
-        requires { ⌜ spec.Writable self (length (now path)) (length (now dst)) ⌝ }
+    // Writes the headers and the path after them, which fill the destination; `wire` is the address header.
+    fn put(self, wire: WireAddress, path: &[u8], dst: &mut [u8])
+        requires { ⌜ spec.Writable self (length (now path)) (length (now dst)) × (wire ≡ onWire (self .address)) ⌝ }
         ensures { λ _. ⌜ now (dst .exit) ≡ spec.headerBytes self (now (path .entry)) ⌝ }
     {
-        let common = self.common();
-        let address = self.address;
-        let fixed = CommonHeader::LENGTH + address.encoded_length();
+        let common = self.common(wire);
+        let fixed = CommonHeader::LENGTH + wire.encoded_length();
         let added = path_length(self.path_type, path.len());
+        wire.put(dst, CommonHeader::LENGTH);
         put_common(common, dst);
-        put_address(address, dst);
         put_slice(dst, fixed, &path[0..added]);
     }
 
@@ -172,9 +166,10 @@ impl ScionHeaders {
             ⌜ now (dst .exit)
             ≡ encoded (spec.encoding self (length (now (path .entry))) (length (now (dst .entry)))) (spec.headerBytes self (now (path .entry))) (now (dst .entry)) ⌝ }
     {
-        match self.check(path.len(), dst.len()) {
+        let wire = self.address.on_wire();
+        match self.check(wire, path.len(), dst.len()) {
             Encoded::Done => {
-                self.put(path, dst);
+                self.put(wire, path, dst);
                 Encoded::Done
             }
             Encoded::Refused(error) => Encoded::Refused(error),

@@ -2,10 +2,10 @@
 use crate::text;
 use address::host::HostAddr;
 use address::ia::IsdAsn;
-use packet_header::address_header::AddressHeader;
-use packet_header::address_header::HostAddress;
-use packet_header::address_header::MaybeEncoded;
-use packet_header::common_header::CommonHeader;
+use address_header::AddressHeader;
+use address_header::HostAddress;
+use address_header::MaybeEncoded;
+use common_header::CommonHeader;
 
 // What a path type means.
 fn path_type(path_type: u8) {

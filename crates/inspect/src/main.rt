@@ -7,7 +7,7 @@ mod text;
 
 use libc::STDIN_FILENO;
 use packet::raw::ScionPacketRaw;
-use path_header::error::Decoded;
+use path_error::Decoded;
 
 // A packet that was split.
 fn accepted(bytes: &[u8], packet: ScionPacketRaw) {

@@ -1,11 +1,11 @@
 // The lines of a standard path: segments, hop fields, interfaces in order of travel, and the path of a reply.
 use crate::text;
 use path::dataplane::DataplanePath;
-use path_header::error::Answer;
-use path_header::fields::HopField;
-use path_header::fields::InfoField;
-use path_header::fields::Interface;
-use path_header::meta_header::PathMetaHeader;
+use path_error::Answer;
+use path_fields::HopField;
+use path_fields::InfoField;
+use path_fields::Interface;
+use path_meta_header::PathMetaHeader;
 use wire_encoding::read::wide;
 ghost use Prim.Native.Nat.{_+_, _≤_};
 
@@ -69,7 +69,7 @@ fn hop_fields(bytes: &[u8], info: InfoField, first: usize, count: usize, current
 
 // The expiry of a segment.
 fn segment_expiry(bytes: &[u8], k: usize) {
-    let expiry = standard().segment_expiry_time(bytes, k);
+    let expiry = path_expiry::segment_expiry_time(standard(), bytes, k);
     text::text(b" expires ");
     text::number(expiry.ms);
 }
@@ -118,7 +118,7 @@ fn interfaces(bytes: &[u8], meta_header: PathMetaHeader) {
     text::number_line(b"  interfaces", count as u64);
     let mut i: usize = 0;
     while i < count {
-        let found = standard().interface(bytes, i);
+        let found = path_interfaces::interface(standard(), bytes, i);
         let id = found.interface;
         text::name(b"    interface");
         text::number(i as u64);
@@ -174,7 +174,7 @@ pub fn path(bytes: &[u8], meta_header: PathMetaHeader) {
     text::number_line(b"  hop pointer", meta_header.current_hop_field as u64);
     text::number_line(b"  reserved", meta_header.reserved as u64);
     text::number_line(b"  hop fields", meta_header.hop_fields_count() as u64);
-    let expiry = standard().expiry_time(bytes);
+    let expiry = path_expiry::expiry_time(standard(), bytes);
     text::number_line(b"  expiry", expiry.ms);
     segments(bytes, meta_header);
     interfaces(bytes, meta_header);

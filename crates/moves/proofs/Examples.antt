@@ -5,8 +5,8 @@ use mathlib.Core.List.{List, [], _∷_, map}
 use Prim.Native.Nat.{ℕ, _+_}
 use lib.ListN.{take}
 use Rattle.wire_encoding.specs.BigEndian.{bigEndian, bytesOf, numberAt, room}
-use Rattle.path_header.specs.Errors.{answerNumber}
-use Rattle.path_header.specs.MetaHeader as meta
+use Rattle.path_error.specs.Errors.{answerNumber}
+use Rattle.path_meta_header.specs.MetaHeader as meta
 use Rattle.path.specs.Standard as standard
 use Rattle.path.specs.Segment.{infoStart}
 use Rattle.path.specs.Dataplane as dataplane

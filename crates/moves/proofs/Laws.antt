@@ -16,14 +16,14 @@ use Rattle.wire_encoding.specs.BigEndian.{bigEndian, bytesOf, placed, numberAt,
 use Rattle.wire_encoding.proofs.Parts.{Bytes}
 use Rattle.wire_encoding.proofs.Numbers.{length-bytesOf}
 use Rattle.wire_encoding.proofs.Writes.{placed-is}
-use Rattle.path_header.specs.MetaHeader as meta
-use Rattle.path_header.specs.declared.meta_header.PathMetaHeader.{PathMetaHeader}
-use Rattle.path_header.specs.declared.error.Decoded.{Decoded}
-use Rattle.path_header.specs.declared.error.Decoded.the-variants as decoded
-use Rattle.path_header.specs.declared.error.Answer.{Answer}
-use Rattle.path_header.specs.declared.error.Answer.the-variants.{Accepted, Refused}
-use Rattle.path_header.specs.declared.error.PathError.{PathError}
-use Rattle.path_header.specs.declared.error.PathError.the-variants.{TooManyHopFields, PeeringNotOnBoth}
+use Rattle.path_meta_header.specs.MetaHeader as meta
+use Rattle.path_meta_header.specs.declared.PathMetaHeader.{PathMetaHeader}
+use Rattle.path_error.specs.declared.Decoded.{Decoded}
+use Rattle.path_error.specs.declared.Decoded.the-variants as decoded
+use Rattle.path_error.specs.declared.Answer.{Answer}
+use Rattle.path_error.specs.declared.Answer.the-variants.{Accepted, Refused}
+use Rattle.path_error.specs.declared.PathError.{PathError}
+use Rattle.path_error.specs.declared.PathError.the-variants.{TooManyHopFields, PeeringNotOnBoth}
 use Rattle.path.specs.Standard.{complete, readPath}
 use Rattle.path.specs.Segment.{infoStart}
 use Rattle.path.specs.Dataplane.{standardRead, readDataplane, answerRefused, standardAnswer, standardOf, carriedOut, onStandard, answered}
@@ -91,10 +91,12 @@ module _ (bytes : List ℕ) where
       go (decoded.Refused error) t ea et = absurd (never (rw ea at h))
 
   -- as a function that called `movable` knows it
+  pub type-known : (type : ℕ) {r : PathAnswer} → r ≡ spec.movableOf type bytes → r .answer ≡ Accepted → type ≡ 1
+  type-known type e h = type-one type (ap (λ (x : PathAnswer). x .answer) (sym e) ∙ h)
+
   pub goes-on : (type : ℕ) {r : PathAnswer} → r ≡ spec.movableOf type bytes → r .answer ≡ Accepted → Movable bytes (r .path .«meta_header»)
   goes-on type {r} e h =
-      let one : type ≡ 1 = type-one type (ap (λ (x : PathAnswer). x .answer) (sym e) ∙ h) in
-      record { read = sym (rw one at e) ∙ ap (λ (a : Answer). record { answer = a; path = r .path }) h }
+      record { read = sym (rw (type-known type e h) at e) ∙ ap (λ (a : Answer). record { answer = a; path = r .path }) h }
 
 module _ (bytes : List ℕ) (m : PathMetaHeader) where
   pub movable-known : Movable bytes m → Known bytes m

@@ -12,11 +12,11 @@ use mir.Val.{Fits}
 use mir.Syntax.{w8}
 use Rattle.wire_encoding.specs.BigEndian.{bytesOf}
 use Rattle.wire_encoding.proofs.Parts.{Bytes}
-use Rattle.path_header.specs.MetaHeader.{hopFieldsCount}
-use Rattle.path_header.specs.declared.meta_header.PathMetaHeader.{PathMetaHeader}
-use Rattle.path_header.specs.declared.error.Answer.{Answer}
-use Rattle.path_header.specs.declared.error.Answer.the-variants.{Accepted, Refused}
-use Rattle.path_header.specs.declared.error.PathError.{PathError}
+use Rattle.path_meta_header.specs.MetaHeader.{hopFieldsCount}
+use Rattle.path_meta_header.specs.declared.PathMetaHeader.{PathMetaHeader}
+use Rattle.path_error.specs.declared.Answer.{Answer}
+use Rattle.path_error.specs.declared.Answer.the-variants.{Accepted, Refused}
+use Rattle.path_error.specs.declared.PathError.{PathError}
 use Rattle.path.specs.Dataplane.{carriedOut}
 use Rattle.moves.specs.Moves.{
   Movable,

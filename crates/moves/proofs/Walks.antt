@@ -11,16 +11,15 @@ use lib.ListN.{length}
 use borrow.Author.Tests.{ltb-true}
 use Rattle.wire_encoding.specs.Choice.{pick}
 use Rattle.wire_encoding.proofs.Parts.{Bytes}
-use Rattle.path_header.specs.MetaHeader.{hopFieldsCount, hopValid, segmentOf}
-use Rattle.path_header.specs.declared.meta_header.PathMetaHeader.{PathMetaHeader}
-use Rattle.path_header.specs.declared.error.Answer.the-variants.{Accepted}
+use Rattle.path_meta_header.specs.MetaHeader.{hopFieldsCount, hopValid, segmentOf}
+use Rattle.path_meta_header.specs.declared.PathMetaHeader.{PathMetaHeader}
+use Rattle.path_error.specs.declared.Answer.the-variants.{Accepted}
 use Rattle.path.specs.Dataplane.{standardOf, carriedOut}
 use Rattle.path.specs.declared.dataplane.PathAnswer.{PathAnswer}
 use Rattle.moves.specs.Moves as spec
 use Rattle.moves.specs.Moves.{Movable, CanMove, iterate}
 use Rattle.moves.proofs.Laws.{
   accepted,
-  type-one,
   movable-known,
   known-movable,
   standard-read,
@@ -84,17 +83,15 @@ module _ (bytes₀ : List ℕ) (m₀ : PathMetaHeader) (bytes : List ℕ) (m : P
       (sym (ap (λ (r : PathAnswer). r .path .«meta_header») read) ∙ ap (λ (l : List ℕ). standardOf 1 l .path .«meta_header») (w .made), w .made)
 
 -- what `walk` reports of a walk that `steps` made
-pub reported : (bytes : List ℕ) (type limit : ℕ) {r : PathAnswer} → r ≡ spec.movableOf type bytes → r .answer ≡ Accepted
-    → {n : ℕ} {left : PathMetaHeader} {now : List ℕ} → n ≡ spec.walkMoves (r .path .«meta_header») limit
+pub reported : (bytes : List ℕ) (m : PathMetaHeader) (limit : ℕ) → Movable bytes m
+    → {n : ℕ} {left : PathMetaHeader} {now : List ℕ} → n ≡ spec.walkMoves m limit
     → left ≡ spec.metaAfter n bytes → now ≡ spec.bytesAfter n bytes
     → (record {
       answer = Accepted;
       path = record { «meta_header» = left };
       moves = n;
-      arrived = eqb (r .path .«meta_header» .«current_hop_field» + n + 1) (hopFieldsCount (r .path .«meta_header»));
-    } ≡ spec.walkAnswer type bytes limit)
-    × (now ≡ spec.walked type bytes limit)
+      arrived = eqb (m .«current_hop_field» + n + 1) (hopFieldsCount m);
+    } ≡ spec.walkAnswer 1 bytes limit)
+    × (now ≡ spec.walked 1 bytes limit)
 unfolding spec.walkAnswer spec.walked spec.walkCount spec.onMovable carriedOut spec.metaAfter spec.bytesAfter
-reported bytes type limit e h en em eb =
-    let one : type ≡ 1 = type-one bytes type (ap (λ (x : PathAnswer). x .answer) (sym e) ∙ h) in
-    rw (← e, h, ← en, one) (rw em, eb)
+reported bytes m limit able en em eb = rw (able .read, ← en) (rw em, eb)

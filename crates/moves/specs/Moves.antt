@@ -10,12 +10,12 @@ use lib.Bits.{bitXor}
 use Rattle.wire_encoding.specs.Choice.{pick}
 use Rattle.wire_encoding.specs.Bits.{bitOf}
 use Rattle.wire_encoding.specs.BigEndian.{bigEndian, bytesOf}
-use Rattle.path_header.specs.MetaHeader.{segmentLength, infoFieldsCount, hopFieldsCount, segmentOf}
-use Rattle.path_header.specs.declared.meta_header.PathMetaHeader.{PathMetaHeader}
-use Rattle.path_header.specs.declared.error.Answer.{Answer}
-use Rattle.path_header.specs.declared.error.Answer.the-variants.{Accepted, Refused}
-use Rattle.path_header.specs.declared.error.PathError.{PathError}
-use Rattle.path_header.specs.declared.error.PathError.the-variants.{TooManyHopFields, PeeringNotOnBoth, AtLastHopField}
+use Rattle.path_meta_header.specs.MetaHeader.{segmentLength, infoFieldsCount, hopFieldsCount, segmentOf}
+use Rattle.path_meta_header.specs.declared.PathMetaHeader.{PathMetaHeader}
+use Rattle.path_error.specs.declared.Answer.{Answer}
+use Rattle.path_error.specs.declared.Answer.the-variants.{Accepted, Refused}
+use Rattle.path_error.specs.declared.PathError.{PathError}
+use Rattle.path_error.specs.declared.PathError.the-variants.{TooManyHopFields, PeeringNotOnBoth, AtLastHopField}
 use Rattle.path.specs.Standard.{zeroPath}
 use Rattle.path.specs.Segment.{infoStart, hopStart}
 use Rattle.path.specs.Dataplane.{answerRefused, answered, carriedOut, onStandard, standardOf}

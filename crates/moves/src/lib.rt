@@ -2,18 +2,18 @@
 use path::dataplane::DataplanePath;
 use path::dataplane::PathAnswer;
 use path::standard::StandardPath;
-use path_header::error::Answer;
-use path_header::error::PathError;
-use path_header::fields::HopField;
-use path_header::fields::InfoField;
-use path_header::meta_header::PathMetaHeader;
+use path_error::Answer;
+use path_error::PathError;
+use path_fields::HopField;
+use path_fields::InfoField;
+use path_meta_header::PathMetaHeader;
 use wire_encoding::read::u16_or_zero;
 use wire_encoding::read::wide;
 use wire_encoding::write::put_u16;
 ghost use mathlib.Core.Path.{_≡_};
 ghost use Prim.Native.Nat.{_+_, _≤_, _<_};
 ghost use lib.ListN.{length};
-ghost use Rattle.path_header.specs.MetaHeader.{pathLength};
+ghost use Rattle.path_meta_header.specs.MetaHeader.{pathLength};
 ghost use Rattle.path.specs.Segment.{infoStart};
 ghost use Rattle.moves.specs.Moves as spec;
 
@@ -35,6 +35,20 @@ pub struct WalkAnswer {
     pub path: StandardPath,
     pub moves: usize,
     pub arrived: bool,
+}
+
+impl WalkAnswer {
+    fn refused(error: PathError) -> WalkAnswer
+        ensures { λ r. ⌜ r ≡ spec.noWalk error ⌝ }
+    {
+        let path = StandardPath::zero();
+        WalkAnswer {
+            answer: Answer::Refused(error),
+            path,
+            moves: 0,
+            arrived: false,
+        }
+    }
 }
 
 // How many moves a walk made, and the header that it left.
@@ -85,17 +99,10 @@ fn movable(path_type: u8, bytes: &[u8]) -> PathAnswer
 {
     let read = DataplanePath::new(path_type).standard(bytes);
     let answer = read.answer;
-    let path = read.path;
     match answer {
         Answer::Accepted => {
-            let found = state(bytes, path.meta_header);
-            match found {
-                Answer::Accepted => PathAnswer {
-                    answer: Answer::Accepted,
-                    path,
-                },
-                Answer::Refused(error) => PathAnswer::refused(error),
-            }
+            let found = state(bytes, read.path.meta_header);
+            PathAnswer::answered(found, read.path)
         }
         Answer::Refused(error) => PathAnswer::refused(error),
     }
@@ -124,6 +131,24 @@ fn is_spared(flags: u8, owner: usize, first_length: usize) -> bool
         return owner == first_length;
     }
     false
+}
+
+// What a move inside segment `segment`, from hop field `hop`, changes the accumulator by: the owner's code, or 0.
+fn change_inside(bytes: &[u8], meta_header: PathMetaHeader, segment: usize, hop: usize) -> u16
+    requires { ⌜ spec.CanMove (now bytes) «meta_header» ⌝ }
+    requires { ⌜ (segment ≡ «meta_header» .«current_info_field») × (segment < 256) ⌝ }
+    requires { ⌜ (hop ≡ «meta_header» .«current_hop_field») × (hop < 256) ⌝ }
+    ensures { λ r. ⌜ r ≡ spec.changeInside (now (bytes .entry)) «meta_header» segment hop ⌝ }
+{
+    let flags = bytes[PathMetaHeader::LENGTH + segment * InfoField::LENGTH];
+    let owner = owner_of(flags, hop);
+    if is_spared(flags, owner, meta_header.segment_length(0)) {
+        return 0;
+    }
+    let owner_at = PathMetaHeader::LENGTH
+        + meta_header.info_fields_count() * InfoField::LENGTH
+        + owner * HopField::LENGTH;
+    u16_or_zero(bytes, owner_at + 6)
 }
 
 impl Position {
@@ -156,20 +181,9 @@ impl Position {
                 change: 0,
             };
         }
-        let flags = bytes[PathMetaHeader::LENGTH + segment * InfoField::LENGTH];
-        let owner = owner_of(flags, hop);
-        if is_spared(flags, owner, meta_header.segment_length(0)) {
-            return Moved {
-                position,
-                change: 0,
-            };
-        }
-        let owner_at = PathMetaHeader::LENGTH
-            + meta_header.info_fields_count() * InfoField::LENGTH
-            + owner * HopField::LENGTH;
         Moved {
             position,
-            change: u16_or_zero(bytes, owner_at + 6),
+            change: change_inside(bytes, meta_header, segment, hop),
         }
     }
 }
@@ -213,6 +227,19 @@ fn step(bytes: &mut [u8], meta_header: PathMetaHeader) -> PathMetaHeader
     at_position(meta_header, there)
 }
 
+// One move of a path that can be moved, unless it is at its last hop field.
+fn move_on(bytes: &mut [u8], meta_header: PathMetaHeader) -> PathAnswer
+    requires { ⌜ spec.Movable (now bytes) «meta_header» ⌝ }
+    ensures { λ r. ⌜ r ≡ spec.moveAnswer 1 (now (bytes .entry)) ⌝ }
+    ensures { λ _. ⌜ now (bytes .exit) ≡ spec.moved 1 (now (bytes .entry)) ⌝ }
+{
+    if wide(meta_header.current_hop_field) + 1 < meta_header.hop_fields_count() {
+        let left = step(bytes, meta_header);
+        return PathAnswer::accepted(StandardPath { meta_header: left });
+    }
+    PathAnswer::refused(PathError::AtLastHopField)
+}
+
 // One move on lent bytes: the hop pointer gains 1, the info pointer names the new segment, the accumulator takes the owner's code in.
 pub fn single_move(path_type: u8, bytes: &mut [u8]) -> PathAnswer
     ensures { λ r. ⌜ r ≡ spec.moveAnswer «path_type» (now (bytes .entry)) ⌝ }
@@ -220,18 +247,8 @@ pub fn single_move(path_type: u8, bytes: &mut [u8]) -> PathAnswer
 {
     let read = movable(path_type, bytes);
     let answer = read.answer;
-    let meta_header = read.path.meta_header;
     match answer {
-        Answer::Accepted => {
-            if wide(meta_header.current_hop_field) + 1 < meta_header.hop_fields_count() {
-                let left = step(bytes, meta_header);
-                return PathAnswer {
-                    answer: Answer::Accepted,
-                    path: StandardPath { meta_header: left },
-                };
-            }
-            PathAnswer::refused(PathError::AtLastHopField)
-        }
+        Answer::Accepted => move_on(bytes, read.path.meta_header),
         Answer::Refused(error) => PathAnswer::refused(error),
     }
 }
@@ -258,6 +275,23 @@ fn steps(bytes: &mut [u8], start: PathMetaHeader, limit: usize) -> Walked
     Walked { meta_header, moves }
 }
 
+// The walk of a path that can be moved.
+fn walk_on(bytes: &mut [u8], meta_header: PathMetaHeader, limit: usize) -> WalkAnswer
+    requires { ⌜ spec.Movable (now bytes) «meta_header» ⌝ }
+    ensures { λ r. ⌜ r ≡ spec.walkAnswer 1 (now (bytes .entry)) limit ⌝ }
+    ensures { λ _. ⌜ now (bytes .exit) ≡ spec.walked 1 (now (bytes .entry)) limit ⌝ }
+{
+    let walked = steps(bytes, meta_header, limit);
+    let moves = walked.moves;
+    let left = walked.meta_header;
+    WalkAnswer {
+        answer: Answer::Accepted,
+        path: StandardPath { meta_header: left },
+        moves,
+        arrived: wide(meta_header.current_hop_field) + moves + 1 == meta_header.hop_fields_count(),
+    }
+}
+
 // A walk on lent bytes: moves until the last hop field or the limit.
 pub fn walk(path_type: u8, bytes: &mut [u8], limit: usize) -> WalkAnswer
     ensures { λ r. ⌜ r ≡ spec.walkAnswer «path_type» (now (bytes .entry)) limit ⌝ }
@@ -265,28 +299,8 @@ pub fn walk(path_type: u8, bytes: &mut [u8], limit: usize) -> WalkAnswer
 {
     let read = movable(path_type, bytes);
     let answer = read.answer;
-    let meta_header = read.path.meta_header;
     match answer {
-        Answer::Accepted => {
-            let walked = steps(bytes, meta_header, limit);
-            let moves = walked.moves;
-            let left = walked.meta_header;
-            WalkAnswer {
-                answer: Answer::Accepted,
-                path: StandardPath { meta_header: left },
-                moves,
-                arrived: wide(meta_header.current_hop_field) + moves + 1
-                    == meta_header.hop_fields_count(),
-            }
-        }
-        Answer::Refused(error) => {
-            let path = StandardPath::zero();
-            WalkAnswer {
-                answer: Answer::Refused(error),
-                path,
-                moves: 0,
-                arrived: false,
-            }
-        }
+        Answer::Accepted => walk_on(bytes, read.path.meta_header, limit),
+        Answer::Refused(error) => WalkAnswer::refused(error),
     }
 }

@@ -12,22 +12,22 @@ use borrow.Author.Tests.{ltb-false, eqb-true}
 use Rattle.wire_encoding.specs.Choice.{pick}
 use Rattle.wire_encoding.specs.BigEndian.{part}
 use Rattle.wire_encoding.proofs.Parts.{length-part}
-use Rattle.path_header.specs.declared.error.Decoded.{Decoded}
-use Rattle.path_header.specs.declared.error.Decoded.the-variants.{Accepted, Refused}
-use Rattle.path_header.specs.declared.error.DecodeError.{DecodeError}
-use Rattle.path_header.specs.declared.error.DecodeError.the-variants.{
+use Rattle.path_error.specs.declared.Decoded.{Decoded}
+use Rattle.path_error.specs.declared.Decoded.the-variants.{Accepted, Refused}
+use Rattle.path_error.specs.declared.DecodeError.{DecodeError}
+use Rattle.path_error.specs.declared.DecodeError.the-variants.{
   PacketEmptyOrTruncated,
   UnsupportedVersion,
   InvalidHeaderLength,
   InconsistentPathLength,
 }
 use Rattle.path.specs.declared.dataplane.DataplaneRead.{DataplaneRead}
-use Rattle.packet_header.specs.CommonHeader.{commonOf, commonRefused, versionOf, factorOf, readCommon, headerLength, hostLength}
-use Rattle.packet_header.specs.AddressHeader.{readAddress, addressTruncated, addressAt, lengthOfKinds}
-use Rattle.packet_header.specs.declared.common_header.CommonHeader.{CommonHeader}
-use Rattle.packet_header.specs.declared.common_header.CommonHeaderRead.{CommonHeaderRead}
-use Rattle.packet_header.specs.declared.address_header.AddressHeader.{AddressHeader}
-use Rattle.packet_header.specs.declared.address_header.AddressHeaderRead.{AddressHeaderRead}
+use Rattle.common_header.specs.CommonHeader.{commonOf, commonRefused, versionOf, factorOf, readCommon, headerLength, hostLength}
+use Rattle.address_header.specs.AddressHeader.{readAddress, addressTruncated, addressAt, lengthOfKinds}
+use Rattle.common_header.specs.declared.CommonHeader.{CommonHeader}
+use Rattle.common_header.specs.declared.CommonHeaderRead.{CommonHeaderRead}
+use Rattle.address_header.specs.declared.AddressHeader.{AddressHeader}
+use Rattle.address_header.specs.declared.AddressHeaderRead.{AddressHeaderRead}
 use Rattle.packet.specs.declared.raw.ScionPacketRaw.{ScionPacketRaw}
 use Rattle.packet.specs.Raw.{
   packetRefused,

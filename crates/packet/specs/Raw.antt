@@ -5,20 +5,20 @@ use lib.ListN.{length}
 use lib.Dec.{ltb, eqb}
 use Rattle.wire_encoding.specs.Choice.{pick}
 use Rattle.wire_encoding.specs.BigEndian.{part}
-use Rattle.path_header.specs.declared.error.Decoded.{Decoded}
-use Rattle.path_header.specs.declared.error.Decoded.the-variants.{Accepted, Refused}
-use Rattle.path_header.specs.declared.error.DecodeError.{DecodeError}
-use Rattle.path_header.specs.declared.error.DecodeError.the-variants.{PacketEmptyOrTruncated, InconsistentPathLength}
+use Rattle.path_error.specs.declared.Decoded.{Decoded}
+use Rattle.path_error.specs.declared.Decoded.the-variants.{Accepted, Refused}
+use Rattle.path_error.specs.declared.DecodeError.{DecodeError}
+use Rattle.path_error.specs.declared.DecodeError.the-variants.{PacketEmptyOrTruncated, InconsistentPathLength}
 use Rattle.path.specs.Standard.{zeroPath}
 use Rattle.path.specs.Dataplane.{readDataplane}
 use Rattle.path.specs.declared.standard.StandardPath.{StandardPath}
 use Rattle.path.specs.declared.standard.Part.{Part}
 use Rattle.path.specs.declared.dataplane.DataplaneRead.{DataplaneRead}
-use Rattle.packet_header.specs.CommonHeader.{zeroCommon, readCommon, headerLength}
-use Rattle.packet_header.specs.AddressHeader.{zeroAddress, readAddress}
-use Rattle.packet_header.specs.declared.common_header.CommonHeader.{CommonHeader}
-use Rattle.packet_header.specs.declared.address_header.AddressHeader.{AddressHeader}
-use Rattle.packet_header.specs.declared.address_header.AddressHeaderRead.{AddressHeaderRead}
+use Rattle.common_header.specs.CommonHeader.{zeroCommon, readCommon, headerLength}
+use Rattle.address_header.specs.AddressHeader.{zeroAddress, readAddress}
+use Rattle.common_header.specs.declared.CommonHeader.{CommonHeader}
+use Rattle.address_header.specs.declared.AddressHeader.{AddressHeader}
+use Rattle.address_header.specs.declared.AddressHeaderRead.{AddressHeaderRead}
 use Rattle.packet.specs.declared.raw.ScionPacketRaw.{ScionPacketRaw}
 
 unfoldable pub packetRefused : DecodeError → ScionPacketRaw

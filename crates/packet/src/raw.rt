@@ -1,11 +1,11 @@
 // A packet split: its headers as values, its path and its payload as parts of the caller's bytes.
-use packet_header::address_header::AddressHeader;
-use packet_header::common_header::CommonHeader;
+use address_header::AddressHeader;
+use common_header::CommonHeader;
 use path::dataplane::DataplanePath;
 use path::standard::Part;
 use path::standard::StandardPath;
-use path_header::error::DecodeError;
-use path_header::error::Decoded;
+use path_error::DecodeError;
+use path_error::Decoded;
 ghost use mathlib.Core.Path.{_≡_};
 ghost use Prim.Native.Nat.{_≤_};
 ghost use lib.ListN.{length};

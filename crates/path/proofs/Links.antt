@@ -1,24 +1,14 @@
--- The hop field of an interface is one of the path's, and each hop field lies in one of its segments.
+-- A path has one, two or three segments, and each hop field lies in one of them.
 -- Assumes nothing.
-use Prim.Native.Nat.{ℕ, _+_, _-_, _*_, _/_, _%_, _≤_, _<_}
+use Prim.Native.Nat.{ℕ, _+_, _-_, _≤_, _<_}
 use mathlib.Core.Path.{_≡_, refl}
 use mathlib.Core.Bool.{Bool, true, false}
 use native.Mathlib.Omega.{arith}
-use lib.Dec.{leb, ltb, eqb}
-use borrow.Author.Tests.{leb-false, ltb-true, ltb-false, eqb-true, eqb-false}
+use lib.Dec.{ltb, eqb}
+use borrow.Author.Tests.{ltb-false, eqb-true, eqb-false}
 use Rattle.wire_encoding.specs.Choice.{pick}
-use Rattle.path_header.specs.MetaHeader.{
-  segmentLength,
-  infoFieldsCount,
-  hopFieldsCount,
-  segmentOf,
-  interfacesCount,
-  segmentOfLink,
-  hopFieldOf,
-  lengthsValid,
-}
-use Rattle.path_header.specs.declared.meta_header.PathMetaHeader.{PathMetaHeader}
-use Rattle.path_header.specs.declared.meta_header.HopFieldOf.the-variants as hop
+use Rattle.path_meta_header.specs.MetaHeader.{segmentLength, infoFieldsCount, hopFieldsCount, segmentOf, lengthsValid}
+use Rattle.path_meta_header.specs.declared.PathMetaHeader.{PathMetaHeader}
 
 -- lengths that are valid: one segment, two or three, none of them empty
 pub data Segments (a b c : ℕ) : ℕ → Type 0 where
@@ -64,29 +54,3 @@ module _ (m : PathMetaHeader) (valid : lengthsValid m ≡ true) where
       go n (three a b c) true q ep eq = omega arith
       go n (three a b c) false true ep eq = omega arith
       go n (three a b c) false false ep eq = omega arith
-
-  -- the hop field of an interface is one of the path's
-  pub link-below : (i : ℕ) {j : ℕ} → hopFieldOf m i ≡ hop.Index j → j < hopFieldsCount m
-  unfolding hopFieldOf segmentOfLink interfacesCount hopFieldsCount
-  link-below i {j} h = go (leb (interfacesCount m) i) refl h
-    where
-      inside : (n : ℕ) → Segments first second third n → (p q : Bool)
-          → ltb (i / 2 + 1) first ≡ p → ltb (i / 2 + 2) (first + second) ≡ q → i < (first + second + third - n) * 2
-          → i / 2 + i % 2 + pick p 0 (pick q 1 2) < first + second + third
-      inside n (one a b c) true q ep eq k = omega arith
-      inside n (one a b c) false q ep eq k = absurd (omega (arith, ltb-false (i / 2 + 1) first ep))
-      inside n (two a b c) true q ep eq k = omega (arith, ltb-true (i / 2 + 1) first ep)
-      inside n (two a b c) false true ep eq k = omega (arith, ltb-true (i / 2 + 2) (first + second) eq)
-      inside n (two a b c) false false ep eq k = absurd (omega (arith, ltb-false (i / 2 + 2) (first + second) eq))
-      inside n (three a b c) true q ep eq k = omega (arith, ltb-true (i / 2 + 1) first ep)
-      inside n (three a b c) false true ep eq k = omega (arith, ltb-true (i / 2 + 2) (first + second) eq)
-      inside n (three a b c) false false ep eq k = omega arith
-
-      go : (t : Bool) → leb (interfacesCount m) i ≡ t
-          → pick t hop.NoSuchInterface (hop.Index (i / 2 + i % 2 + segmentOfLink m (i / 2))) ≡ hop.Index j → j < first + second + third
-      go true e h = let w : _≡_ {A = ℕ} 0 1 = cc in absurd (omega arith)
-      go false e h =
-          let same : i / 2 + i % 2 + segmentOfLink m (i / 2) ≡ j = cc in
-          let below : i < interfacesCount m = leb-false (interfacesCount m) i e in
-          omega
-          (arith, inside (infoFieldsCount m) segments (ltb (i / 2 + 1) first) (ltb (i / 2 + 2) (first + second)) refl refl below)

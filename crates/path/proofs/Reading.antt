@@ -10,7 +10,7 @@ use lib.ListN.{length}
 use borrow.Author.Tests.{leb-true, ltb-true, eqb-true}
 use Rattle.wire_encoding.specs.Choice.{pick, value, refused}
 use Rattle.wire_encoding.specs.BigEndian.{bigEndian, numberAt, room}
-use Rattle.path_header.specs.MetaHeader.{
+use Rattle.path_meta_header.specs.MetaHeader.{
   metaOf,
   infoFieldsCount,
   hopFieldsCount,
@@ -26,16 +26,16 @@ use Rattle.path_header.specs.MetaHeader.{
   infoFieldOffset,
   hopFieldOffset,
 }
-use Rattle.path_header.specs.declared.meta_header.PathMetaHeader.{PathMetaHeader}
-use Rattle.path_header.specs.declared.meta_header.Offset.the-variants as offset
-use Rattle.path_header.specs.declared.error.Decoded.{Decoded}
-use Rattle.path_header.specs.declared.error.Decoded.the-variants as decoded
-use Rattle.path_header.specs.declared.error.DecodeError.{DecodeError}
-use Rattle.path_header.specs.declared.error.DecodeError.the-variants.{PacketEmptyOrTruncated}
-use Rattle.path_header.specs.declared.error.Answer.{Answer}
-use Rattle.path_header.specs.declared.error.Answer.the-variants as answer
-use Rattle.path_header.specs.declared.error.PathError.{PathError}
-use Rattle.path_header.specs.declared.error.PathError.the-variants.{NoSuchField}
+use Rattle.path_meta_header.specs.declared.PathMetaHeader.{PathMetaHeader}
+use Rattle.path_meta_header.specs.declared.Offset.the-variants as offset
+use Rattle.path_error.specs.declared.Decoded.{Decoded}
+use Rattle.path_error.specs.declared.Decoded.the-variants as decoded
+use Rattle.path_error.specs.declared.DecodeError.{DecodeError}
+use Rattle.path_error.specs.declared.DecodeError.the-variants.{PacketEmptyOrTruncated}
+use Rattle.path_error.specs.declared.Answer.{Answer}
+use Rattle.path_error.specs.declared.Answer.the-variants as answer
+use Rattle.path_error.specs.declared.PathError.{PathError}
+use Rattle.path_error.specs.declared.PathError.the-variants.{NoSuchField}
 use Rattle.path.specs.declared.standard.StandardPath.{StandardPath}
 use Rattle.path.specs.declared.dataplane.PathAnswer.{PathAnswer}
 use Rattle.path.specs.declared.dataplane.Located.{Located}

@@ -1,43 +1,17 @@
--- Laws of the least of several numbers, and of where a segment's fields lie.
+-- Where a segment's fields lie.
 -- Assumes nothing.
-use Prim.Native.Nat.{ℕ, zero, suc, _+_, _*_, _-_, _/_, _<_, _≤_, min}
-use mathlib.Core.Path.{_≡_, refl, sym, ap, ap₂, _∙_}
+use Prim.Native.Nat.{ℕ, _+_, _*_, _-_, _<_, _≤_}
+use mathlib.Core.Path.{_≡_, refl}
 use mathlib.Core.List.{List}
 use mathlib.Core.Bool.{Bool, true, false}
-use native.Mathlib.Numerals.{add-one}
 use native.Mathlib.Omega.{arith}
 use lib.Dec.{eqb}
-use lib.ListN.{length, getD}
+use lib.ListN.{length}
 use borrow.Author.Tests.{eqb-false}
 use Rattle.wire_encoding.specs.Choice.{pick}
-use Rattle.wire_encoding.specs.BigEndian.{bigEndian, part}
-use Rattle.wire_encoding.proofs.Parts.{length-part, getD-part}
-use Rattle.path_header.specs.MetaHeader.{infoFieldsCount, hopFieldsCount, firstHopField, segmentLength, segmentLengthOf, pathLength}
-use Rattle.path_header.specs.Fields.{infoFieldAt, hopFieldAt, expiryOffset, expiryTime}
-use Rattle.path_header.specs.declared.meta_header.PathMetaHeader.{PathMetaHeader}
-use Rattle.path.specs.Segment.{infoStart, hopStart, least, expTimeAt, hopExpiry, segmentExpiry}
-
--- one more number, as a loop takes it
-pub least-more : (f : ℕ → ℕ) (last : ℕ) → least f (last + 1) ≡ min (least f last) (f (last + 1))
-unfolding least
-least-more f last = rw add-one
-
--- numbers that are equal one by one have the same least
-least-same : (f g : ℕ → ℕ) (last : ℕ) → ((j : ℕ) → j ≤ last → f j ≡ g j) → least f last ≡ least g last
-unfolding least
-least-same f g zero e = e 0 (omega arith)
-least-same f g (suc last) e = ap₂ min (least-same f g last (λ j h. e j (omega arith))) (e (suc last) (omega arith))
-
--- a later expiry byte is a later expiry, so the least byte gives the least expiry
-expiry-min : (time a b : ℕ) → min (expiryTime time a) (expiryTime time b) ≡ expiryTime time (min a b)
-unfolding expiryTime expiryOffset
-expiry-min time a b = omega arith
-
-least-expiry : (time : ℕ) (e : ℕ → ℕ) (last : ℕ) → least (λ (j : ℕ). expiryTime time (e j)) last ≡ expiryTime time (least e last)
-unfolding least
-least-expiry time e zero = refl
-least-expiry time e (suc last) =
-    ap (λ (x : ℕ). min x (expiryTime time (e (suc last)))) (least-expiry time e last) ∙ expiry-min time (least e last) (e (suc last))
+use Rattle.path_meta_header.specs.MetaHeader.{infoFieldsCount, hopFieldsCount, firstHopField, segmentLength, segmentLengthOf, pathLength}
+use Rattle.path_meta_header.specs.declared.PathMetaHeader.{PathMetaHeader}
+use Rattle.path.specs.Segment.{infoStart, hopStart}
 
 -- segment k has a hop field, and its hop fields are among the path's
 pub segment-within : (m : PathMetaHeader) (k : ℕ) → k < infoFieldsCount m
@@ -61,10 +35,6 @@ segment-within m k h =
         (omega (arith, eqb-false k 0 ea, eqb-false k 1 eb), omega (arith, eqb-false k 0 ea, eqb-false k 1 eb))
     go false false false false false ea eb ex ey ez h = (omega (arith, eqb-false (segmentLength m 2) 0 ez), omega arith)
 
--- the bytes of the hop fields of segment k
-abbrev pub hopRun : List ℕ → PathMetaHeader → ℕ → List ℕ
-hopRun bytes m k = part (hopStart m (firstHopField m k)) (segmentLengthOf m k * 12) bytes
-
 -- where segment k lies in the path's bytes
 pub record Inside (bytes : List ℕ) (m : PathMetaHeader) (k : ℕ) : Type 0 where
   pub info : infoStart k + 8 ≤ length bytes
@@ -78,23 +48,3 @@ module _ (bytes : List ℕ) (m : PathMetaHeader) (k : ℕ) (there : k < infoFiel
   inside =
       let w = segment-within m k there in
       record { info = omega arith; hops = omega (arith, w .1); one = w .0 }
-
-  -- expiry byte j of the run is that of the segment's hop field j
-  byte-in-run : (j : ℕ) → j < segmentLengthOf m k → expTimeAt (hopRun bytes m k) 0 j ≡ getD bytes (hopStart m (firstHopField m k + j) + 1) 0
-  byte-in-run j h =
-      let start = hopStart m (firstHopField m k) in
-      let e : start + (0 + j * 12 + 1) ≡ hopStart m (firstHopField m k + j) + 1 = omega arith in
-      getD-part start (segmentLengthOf m k * 12) bytes (0 + j * 12 + 1) (omega arith)
-      ∙ ap (λ (i : ℕ). getD bytes i 0) e
-
-  -- the segment's expiry, by the least expiry byte of its run
-  pub expiry-by-run : expiryTime (bigEndian 4 bytes (infoStart k + 4)) (least (expTimeAt (hopRun bytes m k) 0) (length (hopRun bytes m k) / 12 - 1))
-      ≡ segmentExpiry bytes m k
-  unfolding segmentExpiry hopExpiry infoFieldAt hopFieldAt
-  expiry-by-run =
-      let time = bigEndian 4 bytes (infoStart k + 4) in
-      let size : length (hopRun bytes m k) ≡ segmentLengthOf m k * 12 = length-part _ _ bytes (inside .hops) in
-      let last : length (hopRun bytes m k) / 12 - 1 ≡ segmentLengthOf m k - 1 = omega arith in
-      ap (λ (n : ℕ). expiryTime time (least (expTimeAt (hopRun bytes m k) 0) n)) last
-      ∙ sym (least-expiry time (expTimeAt (hopRun bytes m k) 0) (segmentLengthOf m k - 1))
-      ∙ least-same _ _ (segmentLengthOf m k - 1) (λ j h. ap (expiryTime time) (byte-in-run j (omega (arith, inside .one))))

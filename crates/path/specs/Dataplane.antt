@@ -1,53 +1,27 @@
 -- The calls on a path of any type: a type byte beside the bytes. Reading comes first, then each call's own order.
-use Prim.Native.Nat.{ℕ, _+_, _%_, _≤_, _<_}
-use mathlib.Core.Bool.{Bool}
+use Prim.Native.Nat.{ℕ}
 use mathlib.Core.List.{List}
-use lib.ListN.{length, getD, set, take}
-use lib.IntN.{pos, subℕ}
-use lib.Dec.{ltb, leb, eqb}
+use lib.ListN.{length, take}
+use lib.Dec.{eqb}
 use Rattle.wire_encoding.specs.Choice.{pick}
-use Rattle.wire_encoding.specs.Bits.{withBit}
 use Rattle.wire_encoding.specs.BigEndian.{part}
-use Rattle.path_header.specs.MetaHeader.{
-  pathLength,
-  infoFieldsCount,
-  segmentOf,
-  infoFieldOffset,
-  hopFieldOffset,
-  interfacesCount,
-  hopFieldOf,
-}
-use Rattle.path_header.specs.Fields.{infoFieldAt, hopFieldAt, ingressInterface, egressInterface}
-use Rattle.path_header.specs.declared.meta_header.PathMetaHeader.{PathMetaHeader}
-use Rattle.path_header.specs.declared.meta_header.Offset.{Offset}
-use Rattle.path_header.specs.declared.meta_header.Offset.the-variants as offset
-use Rattle.path_header.specs.declared.meta_header.HopFieldOf.{HopFieldOf}
-use Rattle.path_header.specs.declared.meta_header.HopFieldOf.the-variants as hop
-use Rattle.path_header.specs.declared.fields.Interface.{Interface}
-use Rattle.path_header.specs.declared.fields.Interface.the-variants as interface
-use Rattle.path_header.specs.declared.error.Decoded.{Decoded}
-use Rattle.path_header.specs.declared.error.Decoded.the-variants as decoded
-use Rattle.path_header.specs.declared.error.Answer.{Answer}
-use Rattle.path_header.specs.declared.error.Answer.the-variants.{Accepted, Refused}
-use Rattle.path_header.specs.declared.error.PathError.{PathError}
-use Rattle.path_header.specs.declared.error.PathError.the-variants.{
-  Decode,
-  NoSuchField,
-  InadequateBufferSize,
-  NumberTooWide,
-}
+use Rattle.path_meta_header.specs.MetaHeader.{pathLength, infoFieldOffset, hopFieldOffset}
+use Rattle.path_meta_header.specs.declared.Offset.{Offset}
+use Rattle.path_meta_header.specs.declared.Offset.the-variants as offset
+use Rattle.path_error.specs.declared.Decoded.{Decoded}
+use Rattle.path_error.specs.declared.Decoded.the-variants as decoded
+use Rattle.path_error.specs.declared.Answer.{Answer}
+use Rattle.path_error.specs.declared.Answer.the-variants.{Accepted, Refused}
+use Rattle.path_error.specs.declared.PathError.{PathError}
+use Rattle.path_error.specs.declared.PathError.the-variants.{Decode, NoSuchField, InadequateBufferSize}
 use Rattle.path.specs.Standard.{zeroPath, readPath}
-use Rattle.path.specs.Segment.{infoStart, hopStart, noSegment, segmentOfPath, segmentExpiry, pathExpiry}
+use Rattle.path.specs.Segment.{noSegment, segmentOfPath}
 use Rattle.path.specs.declared.standard.StandardPath.{StandardPath}
 use Rattle.path.specs.declared.standard.Part.{Part}
 use Rattle.path.specs.declared.standard.segment.Segment.{Segment}
 use Rattle.path.specs.declared.dataplane.DataplaneRead.{DataplaneRead}
 use Rattle.path.specs.declared.dataplane.PathAnswer.{PathAnswer}
 use Rattle.path.specs.declared.dataplane.Located.{Located}
-use Rattle.path.specs.declared.dataplane.Expiry.{Expiry}
-use Rattle.path.specs.declared.dataplane.TimeLeft.{TimeLeft}
-use Rattle.path.specs.declared.dataplane.InterfaceCount.{InterfaceCount}
-use Rattle.path.specs.declared.dataplane.InterfaceAt.{InterfaceAt}
 
 -- READING
 
@@ -110,84 +84,10 @@ segmentIn type bytes k = onStandard type bytes noSegment (λ path. segmentOfPath
 abbrev pub partIn : List ℕ → Part → List ℕ
 partIn bytes p = part (p .start) (p .len) bytes
 
--- EXPIRY AND TIME LEFT
-
-unfoldable pub noExpiry : PathError → Expiry
-noExpiry error = record { answer = Refused error; path = zeroPath; ms = 0 }
-
-unfoldable pub segmentExpiryIn : ℕ → List ℕ → ℕ → Expiry
-segmentExpiryIn type bytes k =
-    onStandard type bytes noExpiry
-    (λ path. pick (ltb k (infoFieldsCount (path .«meta_header»)))
-    (record { answer = Accepted; path = path; ms = segmentExpiry bytes (path .«meta_header») k })
-    (noExpiry NoSuchField))
-
-unfoldable pub expiryIn : ℕ → List ℕ → Expiry
-expiryIn type bytes =
-    onStandard type bytes noExpiry (λ path. record { answer = Accepted; path = path; ms = pathExpiry bytes (path .«meta_header») })
-
-unfoldable pub noTimeLeft : PathError → TimeLeft
-noTimeLeft error = record { answer = Refused error; path = zeroPath; ms = pos 0 }
-
--- 10 for a time above its bound, else expiry − now, which may be below zero
-unfoldable pub timeLeftAt : StandardPath → ℕ → ℕ → TimeLeft
-timeLeftAt path expiry now =
-    pick (leb now 9000000000000) (record { answer = Accepted; path = path; ms = subℕ expiry now }) (noTimeLeft NumberTooWide)
-
--- after the expiry: what refuses that refuses this
-unfoldable pub timeLeftIn : ℕ → List ℕ → ℕ → TimeLeft
-timeLeftIn type bytes now =
-    let expiry = expiryIn type bytes in
-    carriedOut (expiry .answer) (expiry .path) noTimeLeft (λ path. timeLeftAt path (expiry .ms) now)
-
--- INTERFACES
-
-unfoldable pub noCount : PathError → InterfaceCount
-noCount error = record { answer = Refused error; path = zeroPath; count = 0 }
-
-unfoldable pub interfacesIn : ℕ → List ℕ → InterfaceCount
-interfacesIn type bytes =
-    onStandard type bytes noCount (λ path. record { answer = Accepted; path = path; count = interfacesCount (path .«meta_header») })
-
-unfoldable pub noInterface : PathError → InterfaceAt
-noInterface error = record { answer = Refused error; path = zeroPath; «hop_field» = 0; interface = interface.None }
-
--- of hop field j, in the direction of its segment: egress where i is even, ingress where it is odd
-unfoldable pub interfaceAt : List ℕ → PathMetaHeader → ℕ → ℕ → Interface
-interfaceAt bytes m j i =
-    let info = infoFieldAt bytes (infoStart (segmentOf m j)) in
-    let field = hopFieldAt bytes (hopStart m j) in
-    pick (eqb (i % 2) 0) (egressInterface info field) (ingressInterface info field)
-
-unfoldable pub interfaceFound : List ℕ → StandardPath → HopFieldOf → ℕ → InterfaceAt
-interfaceFound bytes path (hop.Index j) i =
-    record { answer = Accepted; path = path; «hop_field» = j; interface = interfaceAt bytes (path .«meta_header») j i }
-interfaceFound bytes path hop.NoSuchInterface i = noInterface NoSuchField
-
-unfoldable pub interfaceIn : ℕ → List ℕ → ℕ → InterfaceAt
-interfaceIn type bytes i =
-    onStandard type bytes noInterface (λ path. interfaceFound bytes path (hopFieldOf (path .«meta_header») i) i)
-
--- hop field j and its segment's info field are among the bytes
-pub record hopIsThere (bytes : List ℕ) (m : PathMetaHeader) (j : ℕ) : Type 0 where
-  pub hop-inside : hopStart m j + 12 ≤ length bytes
-  pub segment-inside : segmentOf m j < infoFieldsCount m
-
--- ALERT FLAGS of hop field j: bit 1 ingress, bit 0 egress. The one bit changes; a refusal changes nothing
-
+-- what a call answers that changes nothing of the record
 unfoldable pub answered : Answer → StandardPath → PathAnswer
 answered Accepted path = record { answer = Accepted; path = path }
 answered (Refused error) path = answerRefused error
-
-unfoldable pub alertAnswer : ℕ → List ℕ → ℕ → PathAnswer
-alertAnswer type bytes j = answered (hopFieldIn type bytes j .answer) (hopFieldIn type bytes j .path)
-
-unfoldable pub alertedAt : ℕ → Bool → List ℕ → Answer → ℕ → List ℕ
-alertedAt bit on bytes Accepted start = set bytes start (withBit bit on (getD bytes start 0))
-alertedAt bit on bytes (Refused error) start = bytes
-
-unfoldable pub alerted : ℕ → Bool → ℕ → List ℕ → ℕ → List ℕ
-alerted bit on type bytes j = alertedAt bit on bytes (hopFieldIn type bytes j .answer) (hopFieldIn type bytes j .part .start)
 
 -- COPYING into a destination of n bytes: reading, then 9 unless n is the path's length; an empty path disregards it
 

@@ -4,12 +4,12 @@ use mathlib.Core.List.{List}
 use lib.ListN.{length}
 use lib.Dec.{leb}
 use Rattle.wire_encoding.specs.Choice.{pick}
-use Rattle.path_header.specs.MetaHeader.{metaOf, pathLength, readMeta}
-use Rattle.path_header.specs.declared.meta_header.PathMetaHeader.{PathMetaHeader}
-use Rattle.path_header.specs.declared.error.Decoded.{Decoded}
-use Rattle.path_header.specs.declared.error.Decoded.the-variants.{Accepted, Refused}
-use Rattle.path_header.specs.declared.error.DecodeError.{DecodeError}
-use Rattle.path_header.specs.declared.error.DecodeError.the-variants.{PacketEmptyOrTruncated}
+use Rattle.path_meta_header.specs.MetaHeader.{metaOf, pathLength, readMeta}
+use Rattle.path_meta_header.specs.declared.PathMetaHeader.{PathMetaHeader}
+use Rattle.path_error.specs.declared.Decoded.{Decoded}
+use Rattle.path_error.specs.declared.Decoded.the-variants.{Accepted, Refused}
+use Rattle.path_error.specs.declared.DecodeError.{DecodeError}
+use Rattle.path_error.specs.declared.DecodeError.the-variants.{PacketEmptyOrTruncated}
 use Rattle.path.specs.declared.standard.StandardPath.{StandardPath}
 use Rattle.path.specs.declared.standard.PathRead.{PathRead}
 

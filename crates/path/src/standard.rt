@@ -1,8 +1,10 @@
 // The standard path: a meta header, info fields and hop fields, read from bytes.
-use path_header::error::DecodeError;
-use path_header::error::Decoded;
-use path_header::meta_header::PathMetaHeader;
+use path_error::DecodeError;
+use path_error::Decoded;
+use path_meta_header::PathMetaHeader;
 ghost use mathlib.Core.Path.{_≡_};
+ghost use Rattle.path_error.specs.declared.Decoded.the-variants as decoded;
+ghost use Rattle.path.specs.Dataplane as dataplane;
 ghost use Rattle.path.specs.Standard as spec;
 
 pub mod segment;
@@ -39,14 +41,10 @@ impl StandardPath {
     {
         let read = PathMetaHeader::decode(bytes);
         let answer = read.answer;
-        let meta_header = read.meta_header;
         match answer {
             Decoded::Accepted => {
-                if meta_header.encoded_path_length() <= bytes.len() {
-                    return PathRead {
-                        answer: Decoded::Accepted,
-                        path: StandardPath { meta_header },
-                    };
+                if read.meta_header.encoded_path_length() <= bytes.len() {
+                    return PathRead::accepted(read.meta_header);
                 }
                 PathRead::refused(DecodeError::PacketEmptyOrTruncated)
             }
@@ -56,6 +54,15 @@ impl StandardPath {
 }
 
 impl PathRead {
+    fn accepted(meta_header: PathMetaHeader) -> PathRead
+        ensures { λ r. ⌜ r ≡ record { answer = decoded.Accepted; path = record { «meta_header» = «meta_header» } } ⌝ }
+    {
+        PathRead {
+            answer: Decoded::Accepted,
+            path: StandardPath { meta_header },
+        }
+    }
+
     fn refused(error: DecodeError) -> PathRead
         ensures { λ r. ⌜ r ≡ spec.pathRefused error ⌝ }
     {
@@ -63,6 +70,17 @@ impl PathRead {
         PathRead {
             answer: Decoded::Refused(error),
             path,
+        }
+    }
+
+    // How many bytes are the path's: as many as its meta header says, none where it was refused.
+    pub(crate) fn length(self) -> usize
+        ensures { λ r. ⌜ r ≡ dataplane.standardRead (self .answer) (self .path) .length ⌝ }
+    {
+        let answer = self.answer;
+        match answer {
+            Decoded::Accepted => self.path.meta_header.encoded_path_length(),
+            Decoded::Refused(_) => 0,
         }
     }
 }

@@ -6,7 +6,7 @@ use Prim.Native.Nat.{ℕ}
 use lib.ListN.{replicate}
 use Rattle.wire_encoding.specs.BigEndian.{bigEndian, bytesOf, numberAt, room}
 use Rattle.wire_encoding.specs.Bits.{withBit}
-use Rattle.path_header.specs.MetaHeader as meta
+use Rattle.path_meta_header.specs.MetaHeader as meta
 use Rattle.path.specs.Standard as standard
 use Rattle.path.specs.Dataplane as dataplane
 use Rattle.reverse.specs.Reverse as reverse

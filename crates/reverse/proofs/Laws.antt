@@ -1,4 +1,4 @@
--- Laws of a reversed path: the stores of a field, the loop that writes records last one first, the size and the header of
+-- Laws of a reversed path: the parts of a field, the loop that writes records last one first, the size and the header of
 -- what is written, and what is answered by the type and by what reading finds.
 -- Assumes nothing.
 use mathlib.Core.Path.{_≡_, refl, sym, ap, ap₂, _∙_}
@@ -9,15 +9,15 @@ use native.Mathlib.Nat.{suc-mul, mod-eq-of-lt}
 use native.Mathlib.Numerals.{sub-one}
 use native.Mathlib.Omega.{arith}
 use lib.Dec.{eqb}
-use lib.ListN.{length, take, drop, getD, set, length-append, length-drop, length-set}
+use lib.ListN.{length, take, drop, getD, set, length-append, length-drop}
 use lib.Seq.{sets, drop-drop, length-sets}
 use borrow.Author.Tests.{lt-ltb, eq-eqb, ne-eqb}
 use Rattle.wire_encoding.specs.Choice.{pick}
 use Rattle.wire_encoding.specs.BigEndian.{bigEndian, bytesOf, part, placed}
-use Rattle.wire_encoding.proofs.Parts.{length-part, part-last, sets-append, sets-whole}
+use Rattle.wire_encoding.proofs.Parts.{length-part, part-cons, part-bytes, part-join, written-after, sets-whole}
 use Rattle.wire_encoding.proofs.Numbers.{length-bytesOf, read-bytesOf}
 use Rattle.wire_encoding.proofs.Writes.{placed-is}
-use Rattle.path_header.specs.MetaHeader.{
+use Rattle.path_meta_header.specs.MetaHeader.{
   nthField,
   metaOf,
   infoFieldsCount,
@@ -29,12 +29,12 @@ use Rattle.path_header.specs.MetaHeader.{
   reversedLengths,
   reversedMeta,
 }
-use Rattle.path_header.specs.declared.meta_header.PathMetaHeader.{PathMetaHeader}
-use Rattle.path_header.specs.declared.error.Decoded.the-variants as decoded
-use Rattle.path_header.specs.declared.error.DecodeError.{DecodeError}
-use Rattle.path_header.specs.declared.error.Answer.the-variants as answer
-use Rattle.path_header.specs.declared.error.PathError.the-variants.{Decode, InadequateBufferSize}
-use Rattle.path_header.proofs.MetaLaws.{fitting, word-below, meta-back}
+use Rattle.path_meta_header.specs.declared.PathMetaHeader.{PathMetaHeader}
+use Rattle.path_error.specs.declared.Decoded.the-variants as decoded
+use Rattle.path_error.specs.declared.DecodeError.{DecodeError}
+use Rattle.path_error.specs.declared.Answer.the-variants as answer
+use Rattle.path_error.specs.declared.PathError.the-variants.{Decode, InadequateBufferSize}
+use Rattle.path_meta_header.proofs.MetaLaws.{fitting, word-below, meta-back}
 use Rattle.path.specs.declared.standard.PathRead.{PathRead}
 use Rattle.path.specs.declared.dataplane.PathAnswer.{PathAnswer}
 use Rattle.path.specs.Standard.{readPath}
@@ -62,43 +62,7 @@ use Rattle.reverse.specs.Reverse.{
   reversed,
 }
 
--- one run after another, where the first has n bytes
-written-after : (xs ys dst : List ℕ) (to n : ℕ) → length xs ≡ n → sets (sets dst to xs) (to + n) ys ≡ sets dst to (xs ++ ys)
-written-after xs ys dst to n size =
-    sym (sets-append xs ys dst to ∙ ap (λ (m : ℕ). sets (sets dst to xs) (to + m) ys) size)
-
--- THE STORES OF A FIELD
-
--- bytes 1 to n of a field, loaded and stored one by one
-abbrev pub stores : List ℕ → ℕ → List ℕ → ℕ → ℕ → List ℕ
-stores src from dst to zero = dst
-stores src from dst to (suc n) = set (stores src from dst to n) (to + suc n) (getD src (from + suc n) 0)
-
-length-stores : (src : List ℕ) (from : ℕ) (dst : List ℕ) (to n : ℕ) → length (stores src from dst to n) ≡ length dst
-length-stores src from dst to zero = refl
-length-stores src from dst to (suc n) = length-set (stores src from dst to n) _ _ ∙ length-stores src from dst to n
-
--- the next store has its place
-pub inside : (src : List ℕ) (from : ℕ) (dst : List ℕ) (to first n size : ℕ) → to + size ≤ length dst → suc n < size
-    → to + suc n < length (stores src from (set dst to first) to n)
-inside src from dst to first n size h k =
-    omega (arith, length-stores src from (set dst to first) to n, length-set dst to first)
-
--- after the store of byte 0 they are one write
-pub stored : (src : List ℕ) (from : ℕ) (dst : List ℕ) (to first n : ℕ) → from + suc n ≤ length src
-    → stores src from (set dst to first) to n ≡ sets dst to (first ∷ part (suc from) n src)
-stored src from dst to first zero h = refl
-stored src from dst to first (suc n) h =
-    let field : List ℕ = first ∷ part (suc from) n src in
-    let last : ℕ = getD src (from + suc n) 0 in
-    let size : length field ≡ suc n = ap suc (length-part (suc from) n src (omega arith)) in
-    let next : suc from + n ≡ from + suc n = omega arith in
-    ap (λ (l : List ℕ). set l (to + suc n) last) (stored src from dst to first n (omega arith))
-    ∙ written-after field (last ∷ []) dst to (suc n) size
-    ∙ ap (λ (i : ℕ). sets dst to (first ∷ (part (suc from) n src ++ (getD src i 0 ∷ [])))) (sym next)
-    ∙ ap (λ (l : List ℕ). sets dst to (first ∷ l)) (sym (part-last (suc from) n src (omega arith)))
-
--- RECORDS, THE LAST ONE FIRST
+-- THE PARTS OF A FIELD
 
 -- what is written of a field is as long as the field
 abbrev pub Sized : (List ℕ → List ℕ) → Type 0
@@ -112,6 +76,53 @@ sized-flipped (flags ∷ rest) = refl
 pub sized-same : Sized same
 unfolding same
 sized-same field = refl
+
+-- four bytes, one by one: stored, and loaded
+module _ (at : ℕ) where
+  one : at + 1 ≡ suc at
+  one = omega arith
+
+  two : at + 2 ≡ suc (suc at)
+  two = omega arith
+
+  three : at + 3 ≡ suc (suc (suc at))
+  three = omega arith
+
+  pub four-stores : (l : List ℕ) (a b c d : ℕ) → set (set (set (set l at a) (at + 1) b) (at + 2) c) (at + 3) d ≡ sets l at (a ∷ b ∷ c ∷ d ∷ [])
+  four-stores l a b c d = rw (one, two, three)
+
+  pub four-loads : (bytes : List ℕ) → at + 4 ≤ length bytes
+      → getD bytes at 0 ∷ getD bytes (at + 1) 0 ∷ getD bytes (at + 2) 0 ∷ getD bytes (at + 3) 0 ∷ [] ≡ part at 4 bytes
+  four-loads bytes h = rw (one, two, three) (sym (part-bytes 4 at bytes h))
+
+-- a part written after the part before it
+pub parts-written : (src dst : List ℕ) (from to m n : ℕ) → from + m ≤ length src
+    → sets (sets dst to (part from m src)) (to + m) (part (from + m) n src) ≡ sets dst to (part from (m + n) src)
+parts-written src dst from to m n h =
+    written-after (part from m src) (part (from + m) n src) dst to m (length-part from m src h)
+    ∙ ap (sets dst to) (part-join from m n src)
+
+-- a hop field: three parts of four bytes
+pub three-parts : (src dst : List ℕ) (from to : ℕ) → from + 12 ≤ length src → {d₁ d₂ d₃ : List ℕ} → d₁ ≡ sets dst to (part from 4 src)
+    → d₂ ≡ sets d₁ (to + 4) (part (from + 4) 4 src) → d₃ ≡ sets d₂ (to + 8) (part (from + 8) 4 src) → d₃ ≡ sets dst to (part from 12 src)
+three-parts src dst from to h e₁ e₂ e₃ =
+    e₃
+    ∙ ap (λ (l : List ℕ). sets l (to + 8) (part (from + 8) 4 src))
+    (e₂ ∙ ap (λ (l : List ℕ). sets l (to + 4) (part (from + 4) 4 src)) e₁ ∙ parts-written src dst from to 4 4 (omega arith))
+    ∙ parts-written src dst from to 8 4 (omega arith)
+
+-- an info field: its first four bytes flipped, then the others
+pub flipped-written : (src dst : List ℕ) (from to : ℕ) → from + 8 ≤ length src
+    → sets (sets dst to (flipped (part from 4 src))) (to + 4) (part (from + 4) 4 src) ≡ sets dst to (flipped (part from 8 src))
+unfolding flipped
+flipped-written src dst from to h =
+    let first : part from 4 src ≡ getD src from 0 ∷ part (suc from) 3 src = part-cons from 3 src (omega arith) in
+    let whole : flipped (part from 4 src) ++ part (from + 4) 4 src ≡ flipped (part from 8 src) = rw (← part-join from 4 4 src, first) in
+    written-after (flipped (part from 4 src)) (part (from + 4) 4 src) dst to 4
+    (sized-flipped (part from 4 src) ∙ length-part from 4 src (omega arith))
+    ∙ ap (sets dst to) whole
+
+-- RECORDS, THE LAST ONE FIRST
 
 -- records of k bytes, each written by f
 module _ (f : List ℕ → List ℕ) (sized : Sized f) (k : ℕ) where

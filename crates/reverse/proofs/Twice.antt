@@ -16,7 +16,7 @@ use Rattle.wire_encoding.specs.BigEndian.{bytesOf, part}
 use Rattle.wire_encoding.proofs.Flags.{bit-kept}
 use Rattle.wire_encoding.proofs.Parts.{length-part}
 use Rattle.wire_encoding.proofs.Numbers.{length-bytesOf}
-use Rattle.path_header.specs.MetaHeader.{
+use Rattle.path_meta_header.specs.MetaHeader.{
   metaOf,
   segmentLength,
   infoFieldsCount,
@@ -27,7 +27,7 @@ use Rattle.path_header.specs.MetaHeader.{
   reversedLengths,
   reversedMeta,
 }
-use Rattle.path_header.specs.declared.meta_header.PathMetaHeader.{PathMetaHeader}
+use Rattle.path_meta_header.specs.declared.PathMetaHeader.{PathMetaHeader}
 use Rattle.path.proofs.Links.{Segments, one, two, three, segments}
 use Rattle.path.proofs.Reading.{Readable}
 use Rattle.reverse.specs.Reverse.{reversedRecords, flipped, same, reversedPath}

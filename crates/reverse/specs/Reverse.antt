@@ -9,8 +9,8 @@ use lib.Dec.{eqb}
 use Rattle.wire_encoding.specs.Choice.{pick}
 use Rattle.wire_encoding.specs.Bits.{bitOf, withBit}
 use Rattle.wire_encoding.specs.BigEndian.{bytesOf, part}
-use Rattle.path_header.specs.MetaHeader.{infoFieldsCount, hopFieldsCount, pathLength, fieldsFit, wordOf, reversedMeta}
-use Rattle.path_header.specs.declared.meta_header.PathMetaHeader.{PathMetaHeader}
+use Rattle.path_meta_header.specs.MetaHeader.{infoFieldsCount, hopFieldsCount, pathLength, fieldsFit, wordOf, reversedMeta}
+use Rattle.path_meta_header.specs.declared.PathMetaHeader.{PathMetaHeader}
 use Rattle.path.specs.declared.standard.StandardPath.{StandardPath}
 use Rattle.path.specs.declared.dataplane.PathAnswer.{PathAnswer}
 use Rattle.path.specs.Dataplane.{readDataplane, answered, destinationIn, copiedBy}

@@ -7,13 +7,13 @@ use mathlib.Core.List.{List}
 use native.Mathlib.Omega.{arith}
 use lib.ListN.{length}
 use borrow.Author.Tests.{lt-ltb, le-ltb}
-use Rattle.path_header.specs.MetaHeader.{hopFieldsCount, pathLength}
-use Rattle.path_header.specs.declared.meta_header.PathMetaHeader.{PathMetaHeader}
-use Rattle.path_header.specs.declared.error.Decoded.{Decoded}
-use Rattle.path_header.specs.declared.error.Decoded.the-variants as decoded
-use Rattle.path_header.specs.declared.error.Answer.the-variants.{Accepted, Refused}
-use Rattle.path_header.specs.declared.error.PathError.{PathError}
-use Rattle.path_header.specs.declared.error.PathError.the-variants.{AtLastHopField, InadequateBufferSize}
+use Rattle.path_meta_header.specs.MetaHeader.{hopFieldsCount, pathLength}
+use Rattle.path_meta_header.specs.declared.PathMetaHeader.{PathMetaHeader}
+use Rattle.path_error.specs.declared.Decoded.{Decoded}
+use Rattle.path_error.specs.declared.Decoded.the-variants as decoded
+use Rattle.path_error.specs.declared.Answer.the-variants.{Accepted, Refused}
+use Rattle.path_error.specs.declared.PathError.{PathError}
+use Rattle.path_error.specs.declared.PathError.the-variants.{AtLastHopField, InadequateBufferSize}
 use Rattle.path.specs.Standard.{readPath}
 use Rattle.path.specs.Dataplane.{standardRead, readDataplane, answerRefused, standardAnswer, standardOf, carriedOut}
 use Rattle.path.specs.declared.standard.StandardPath.{StandardPath}

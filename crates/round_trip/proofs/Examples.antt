@@ -13,11 +13,11 @@ use borrow.Author.Tests.{ltb-true, leb-true, eqb-true}
 use Rattle.wire_encoding.specs.Choice.{pick}
 use Rattle.wire_encoding.specs.BigEndian.{bigEndian, bytesOf, numberAt, room}
 use Rattle.wire_encoding.specs.Bits.{withBit}
-use Rattle.path_header.specs.MetaHeader as meta
-use Rattle.path_header.specs.Fields as fields
-use Rattle.path_header.specs.declared.fields.Interface.the-variants.{Id}
-use Rattle.path_header.specs.declared.error.Answer.{Answer}
-use Rattle.path_header.specs.declared.error.Answer.the-variants.{Accepted}
+use Rattle.path_meta_header.specs.MetaHeader as meta
+use Rattle.path_fields.specs.Fields as fields
+use Rattle.path_fields.specs.declared.Interface.the-variants.{Id}
+use Rattle.path_error.specs.declared.Answer.{Answer}
+use Rattle.path_error.specs.declared.Answer.the-variants.{Accepted}
 use Rattle.path.specs.Standard as standard
 use Rattle.path.specs.Dataplane as dataplane
 use Rattle.moves.specs.Moves as moves

@@ -11,11 +11,11 @@ use lib.Dec.{eqb}
 use lib.ListN.{length, set, getElem?}
 use borrow.Author.Tests.{eqb-true, eqb-false}
 use Rattle.wire_encoding.specs.Choice.{pick}
-use Rattle.path_header.specs.MetaHeader.{hopFieldsCount, pathLength}
-use Rattle.path_header.specs.declared.meta_header.PathMetaHeader.{PathMetaHeader}
-use Rattle.path_header.specs.declared.error.Answer.{Answer}
-use Rattle.path_header.specs.declared.error.Answer.the-variants.{Accepted, Refused}
-use Rattle.path_header.specs.declared.error.PathError.{PathError}
+use Rattle.path_meta_header.specs.MetaHeader.{hopFieldsCount, pathLength}
+use Rattle.path_meta_header.specs.declared.PathMetaHeader.{PathMetaHeader}
+use Rattle.path_error.specs.declared.Answer.{Answer}
+use Rattle.path_error.specs.declared.Answer.the-variants.{Accepted, Refused}
+use Rattle.path_error.specs.declared.PathError.{PathError}
 use Rattle.reverse.specs.Reverse.{reverseAnswer, reversed}
 use Rattle.moves.specs.Moves as moves
 use Rattle.round_trip.specs.RoundTrip.{

@@ -10,8 +10,8 @@ use lib.ListN.{length}
 use Rattle.wire_encoding.specs.Choice.{pick}
 use Rattle.wire_encoding.specs.Bits.{bitOf}
 use Rattle.wire_encoding.specs.BigEndian.{part}
-use Rattle.path_header.specs.MetaHeader.{infoFieldsCount, hopFieldsCount, segmentOf}
-use Rattle.path_header.specs.Fields.{
+use Rattle.path_meta_header.specs.MetaHeader.{infoFieldsCount, hopFieldsCount, segmentOf}
+use Rattle.path_fields.specs.Fields.{
   infoFieldAt,
   withConstructedDir,
   hopFieldAt,
@@ -20,10 +20,10 @@ use Rattle.path_header.specs.Fields.{
   ingressInterface,
   egressInterface,
 }
-use Rattle.path_header.specs.declared.meta_header.PathMetaHeader.{PathMetaHeader}
-use Rattle.path_header.specs.declared.fields.InfoField.{InfoField}
-use Rattle.path_header.specs.declared.fields.HopField.{HopField}
-use Rattle.path_header.proofs.FieldLaws.{hop-of-part}
+use Rattle.path_meta_header.specs.declared.PathMetaHeader.{PathMetaHeader}
+use Rattle.path_fields.specs.declared.InfoField.{InfoField}
+use Rattle.path_fields.specs.declared.HopField.{HopField}
+use Rattle.path_fields.proofs.FieldLaws.{hop-of-part}
 use Rattle.path.specs.Segment.{infoStart, hopStart}
 use Rattle.path.specs.declared.dataplane.PathAnswer.{PathAnswer}
 use Rattle.path.proofs.Links.{segment-below}

@@ -14,7 +14,7 @@ use Rattle.wire_encoding.specs.Bits.{bitOf, withBit}
 use Rattle.wire_encoding.specs.BigEndian.{bigEndian, part}
 use Rattle.wire_encoding.proofs.Flags.{bit-kept}
 use Rattle.wire_encoding.proofs.Parts.{Bytes}
-use Rattle.path_header.specs.MetaHeader.{
+use Rattle.path_meta_header.specs.MetaHeader.{
   nthField,
   metaOf,
   segmentLength,
@@ -27,10 +27,10 @@ use Rattle.path_header.specs.MetaHeader.{
   reversedLengths,
   reversedMeta,
 }
-use Rattle.path_header.specs.Fields.{infoFieldAt, withConstructedDir}
-use Rattle.path_header.specs.declared.meta_header.PathMetaHeader.{PathMetaHeader}
-use Rattle.path_header.specs.declared.fields.InfoField.{InfoField}
-use Rattle.path_header.proofs.MetaLaws.{Fitting}
+use Rattle.path_fields.specs.Fields.{infoFieldAt, withConstructedDir}
+use Rattle.path_meta_header.specs.declared.PathMetaHeader.{PathMetaHeader}
+use Rattle.path_fields.specs.declared.InfoField.{InfoField}
+use Rattle.path_meta_header.proofs.MetaLaws.{Fitting}
 use Rattle.path.specs.Segment.{infoStart, hopStart}
 use Rattle.reverse.specs.Reverse.{reversedPath}
 use Rattle.moves.specs.Moves.{flagsAt, peerings, peeringAllowed}

@@ -12,10 +12,10 @@ use lib.Bits.{bitXor, xor-zero-r}
 use borrow.Author.Tests.{eqb-true, eqb-false, eq-eqb, ne-eqb}
 use Rattle.wire_encoding.specs.Choice.{pick}
 use Rattle.wire_encoding.specs.BigEndian.{part}
-use Rattle.path_header.specs.MetaHeader.{segmentLength, infoFieldsCount, hopFieldsCount, segmentOf, firstHopField, lengthsValid}
-use Rattle.path_header.specs.Fields.{infoFieldAt}
-use Rattle.path_header.specs.declared.meta_header.PathMetaHeader.{PathMetaHeader}
-use Rattle.path_header.specs.declared.fields.InfoField.{InfoField}
+use Rattle.path_meta_header.specs.MetaHeader.{segmentLength, infoFieldsCount, hopFieldsCount, segmentOf, firstHopField, lengthsValid}
+use Rattle.path_fields.specs.Fields.{infoFieldAt}
+use Rattle.path_meta_header.specs.declared.PathMetaHeader.{PathMetaHeader}
+use Rattle.path_fields.specs.declared.InfoField.{InfoField}
 use Rattle.path.specs.Segment.{infoStart, hopStart}
 use Rattle.path.proofs.Links.{segment-below}
 use Rattle.moves.specs.Moves.{atPosition, changeInside, codeOf, flagsAt, iterate, moveBytes, moveFrom, moved, movedMeta, ownerOf, positionOf, spared}

@@ -8,8 +8,8 @@ use native.Mathlib.Nat.{add-zero}
 use native.Mathlib.Numerals.{add-one}
 use native.Mathlib.Omega.{arith}
 use lib.ListN.{length, replicate, length-replicate}
-use Rattle.path_header.specs.MetaHeader.{infoFieldsCount, hopFieldsCount, pathLength, segmentOf}
-use Rattle.path_header.specs.declared.meta_header.PathMetaHeader.{PathMetaHeader}
+use Rattle.path_meta_header.specs.MetaHeader.{infoFieldsCount, hopFieldsCount, pathLength, segmentOf}
+use Rattle.path_meta_header.specs.declared.PathMetaHeader.{PathMetaHeader}
 use Rattle.reverse.specs.Reverse.{reversed}
 use Rattle.moves.specs.Moves.{atPosition, iterate, moveBytes, moveFrom, moved, movedMeta, positionOf, walked, walkMoves}
 use Rattle.moves.proofs.Laws.{one-move}

@@ -7,8 +7,8 @@ use mathlib.Core.List.{List, [], _∷_, _++_}
 use native.Mathlib.Omega.{arith}
 use lib.ListN.{length}
 use Rattle.wire_encoding.specs.BigEndian.{part}
-use Rattle.path_header.specs.MetaHeader.{infoFieldsCount, hopFieldsCount}
-use Rattle.path_header.specs.declared.meta_header.PathMetaHeader.{PathMetaHeader}
+use Rattle.path_meta_header.specs.MetaHeader.{infoFieldsCount, hopFieldsCount}
+use Rattle.path_meta_header.specs.declared.PathMetaHeader.{PathMetaHeader}
 use Rattle.path.specs.Segment.{hopStart}
 use Rattle.reverse.specs.Reverse.{reversed}
 use Rattle.moves.specs.Moves.{atPosition, iterate, moved, walked}

@@ -9,7 +9,7 @@ use native.Mathlib.Omega.{arith}
 use lib.Dec.{eqb}
 use lib.ListN.{getD}
 use borrow.Author.Tests.{lt-ltb, le-ltb, eq-eqb, ne-eqb}
-use Rattle.path_header.specs.MetaHeader.{
+use Rattle.path_meta_header.specs.MetaHeader.{
   segmentLength,
   infoFieldsCount,
   hopFieldsCount,
@@ -17,7 +17,7 @@ use Rattle.path_header.specs.MetaHeader.{
   lengthsValid,
   reversedLengths,
 }
-use Rattle.path_header.specs.declared.meta_header.PathMetaHeader.{PathMetaHeader}
+use Rattle.path_meta_header.specs.declared.PathMetaHeader.{PathMetaHeader}
 use Rattle.path.proofs.Links.{Segments, one, two, three, segments}
 use Rattle.round_trip.proofs.Fields.{by-lt}
 

@@ -10,8 +10,8 @@ use native.Mathlib.Omega.{arith}
 use lib.ListN.{length}
 use borrow.Author.Tests.{eq-eqb}
 use Rattle.wire_encoding.specs.Choice.{pick}
-use Rattle.path_header.specs.MetaHeader.{hopFieldsCount}
-use Rattle.path_header.specs.declared.meta_header.PathMetaHeader.{PathMetaHeader}
+use Rattle.path_meta_header.specs.MetaHeader.{hopFieldsCount}
+use Rattle.path_meta_header.specs.declared.PathMetaHeader.{PathMetaHeader}
 use Rattle.reverse.specs.Reverse.{reverseAnswer, reversed}
 use Rattle.moves.specs.Moves as moves
 use Rattle.round_trip.specs.RoundTrip.{

@@ -10,13 +10,13 @@ use lib.Dec.{eqb}
 use lib.Bits.{bitXor}
 use Rattle.wire_encoding.specs.Choice.{pick}
 use Rattle.wire_encoding.specs.BigEndian.{part}
-use Rattle.path_header.specs.MetaHeader.{hopFieldsCount, pathLength, segmentOf, firstHopField}
-use Rattle.path_header.specs.Fields.{infoFieldAt, hopFieldAt, ingressInterface, egressInterface}
-use Rattle.path_header.specs.declared.meta_header.PathMetaHeader.{PathMetaHeader}
-use Rattle.path_header.specs.declared.fields.InfoField.{InfoField}
-use Rattle.path_header.specs.declared.fields.Interface.{Interface}
-use Rattle.path_header.specs.declared.error.Answer.{Answer}
-use Rattle.path_header.specs.declared.error.Answer.the-variants.{Accepted, Refused}
+use Rattle.path_meta_header.specs.MetaHeader.{hopFieldsCount, pathLength, segmentOf, firstHopField}
+use Rattle.path_fields.specs.Fields.{infoFieldAt, hopFieldAt, ingressInterface, egressInterface}
+use Rattle.path_meta_header.specs.declared.PathMetaHeader.{PathMetaHeader}
+use Rattle.path_fields.specs.declared.InfoField.{InfoField}
+use Rattle.path_fields.specs.declared.Interface.{Interface}
+use Rattle.path_error.specs.declared.Answer.{Answer}
+use Rattle.path_error.specs.declared.Answer.the-variants.{Accepted, Refused}
 use Rattle.path.specs.Segment.{infoStart, hopStart}
 use Rattle.path.specs.Dataplane.{standardOf}
 use Rattle.reverse.specs.Reverse as reverse

@@ -1,4 +1,3 @@
-// The calls for C, in the names and the layout of include/scion_proto.h.
-pub mod answer;
+// The calls for C, in the names of include/scion_proto.h.
 pub mod packets;
 pub mod paths;

@@ -1,208 +1,24 @@
 // The calls on packets: reading one, and writing the headers of one.
-use crate::answer::ScionAnswer;
-use crate::answer::ScionPart;
-use crate::answer::ScionPath;
-use crate::answer::decoded_out;
-use crate::answer::part_out;
-use crate::answer::path_out;
-use address::host::HostAddr;
-use address::ia::IsdAsn;
-use address::service::ServiceAddr;
 use headers::ScionHeaders as Headers;
 use packet::raw::ScionPacketRaw;
-use packet_header::address_header::AddressHeader;
-use packet_header::address_header::HostAddress;
-use packet_header::address_header::MaybeEncoded;
-use packet_header::error::Encoded;
+use scion_records::answer::ScionAnswer;
+use scion_records::answer::decoded_out;
+use scion_records::answer::part_out;
+use scion_records::answer::path_out;
+use scion_records::packets::ScionHeaders;
+use scion_records::packets::ScionHost;
+use scion_records::packets::ScionPacket;
+use scion_records::packets::address_in;
+use scion_records::packets::encoded_out;
+use scion_records::packets::headers_in;
+use scion_records::packets::headers_out;
+use scion_records::packets::host_out;
 ghost use mathlib.Core.Path.{_≡_};
 ghost use lib.ListN.{length};
 ghost use Rattle.packet.specs.Raw.{readPacket};
-ghost use Rattle.packet_header.specs.Encoding.{encoded};
+ghost use Rattle.common_header.specs.Encoding.{encoded};
 ghost use Rattle.headers.specs.Headers as headers;
-ghost use Rattle.scion_proto.specs.Packets as spec;
-
-// A host: its kind on the wire, a service's number, or the first bytes of `bytes`.
-#[repr(C)]
-pub struct ScionHost {
-    pub kind: u8,
-    pub service: u16,
-    pub bytes: [u8; 16],
-}
-
-// A packet that was split: every value of its headers, and where its path and its payload lie.
-#[repr(C)]
-pub struct ScionPacket {
-    pub answer: ScionAnswer,
-    pub path: ScionPath,
-    pub version: u8,
-    pub traffic_class: u8,
-    pub next_header: u8,
-    pub header_length_factor: u8,
-    pub path_type: u8,
-    pub payload_length: u16,
-    pub reserved: u16,
-    pub flow_id: u32,
-    pub destination_ia: u64,
-    pub source_ia: u64,
-    pub destination: ScionHost,
-    pub source: ScionHost,
-    pub path_part: ScionPart,
-    pub payload_part: ScionPart,
-}
-
-// The headers to be written.
-#[repr(C)]
-pub struct ScionHeaders {
-    pub version: u8,
-    pub traffic_class: u8,
-    pub next_header: u8,
-    pub path_type: u8,
-    pub reserved: u16,
-    pub flow_id: u32,
-    pub header_length_factor: usize,
-    pub payload_length: usize,
-    pub destination_ia: u64,
-    pub source_ia: u64,
-    pub destination: ScionHost,
-    pub source: ScionHost,
-}
-
-// A service's number; 0 for any other host.
-fn service_of(host: MaybeEncoded) -> u16
-    ensures { λ r. ⌜ r ≡ spec.serviceOf host ⌝ }
-{
-    match host {
-        MaybeEncoded::Decoded(named) => match named {
-            HostAddr::V4 => 0,
-            HostAddr::V6 => 0,
-            HostAddr::Svc(service) => service.0,
-        },
-        MaybeEncoded::Encoded(_) => 0,
-    }
-}
-
-// A host that was read.
-fn host_out(address: HostAddress) -> ScionHost
-    ensures { λ r. ⌜ r ≡ spec.hostOut address ⌝ }
-{
-    let host = address.host;
-    let bytes = address.bytes;
-    ScionHost {
-        kind: host.kind(),
-        service: service_of(host),
-        bytes,
-    }
-}
-
-// A host to be written, by its kind.
-fn host_in(given: ScionHost) -> HostAddress
-    ensures { λ r. ⌜ r ≡ spec.hostIn given ⌝ }
-{
-    let kind = given.kind;
-    let bytes = given.bytes;
-    if kind == 4 {
-        return HostAddress {
-            host: MaybeEncoded::Decoded(HostAddr::Svc(ServiceAddr(given.service))),
-            bytes,
-        };
-    }
-    if kind == 0 {
-        return HostAddress {
-            host: MaybeEncoded::Decoded(HostAddr::V4),
-            bytes,
-        };
-    }
-    if kind == 3 {
-        return HostAddress {
-            host: MaybeEncoded::Decoded(HostAddr::V6),
-            bytes,
-        };
-    }
-    HostAddress {
-        host: MaybeEncoded::Encoded(kind),
-        bytes,
-    }
-}
-
-// The address header of both ends.
-fn address_in(
-    destination_ia: u64,
-    destination: ScionHost,
-    source_ia: u64,
-    source: ScionHost,
-) -> AddressHeader
-    ensures { λ r. ⌜ r ≡ spec.addressIn «destination_ia» destination «source_ia» source ⌝ }
-{
-    let to = host_in(destination);
-    let from = host_in(source);
-    AddressHeader {
-        destination_ia: IsdAsn(destination_ia),
-        source_ia: IsdAsn(source_ia),
-        destination: to,
-        source: from,
-    }
-}
-
-// The headers as the library takes them.
-fn headers_in(given: ScionHeaders) -> Headers
-    ensures { λ r. ⌜ r ≡ spec.headersIn given ⌝ }
-{
-    let destination = given.destination;
-    let source = given.source;
-    let address = address_in(given.destination_ia, destination, given.source_ia, source);
-    Headers {
-        version: given.version,
-        traffic_class: given.traffic_class,
-        flow_id: given.flow_id,
-        next_header: given.next_header,
-        header_length_factor: given.header_length_factor,
-        payload_length: given.payload_length,
-        path_type: given.path_type,
-        reserved: given.reserved,
-        address,
-    }
-}
-
-// The headers as C takes them.
-fn headers_out(made: Headers) -> ScionHeaders
-    ensures { λ r. ⌜ r ≡ spec.headersOut made ⌝ }
-{
-    let address = made.address;
-    let destination_ia = address.destination_ia;
-    let source_ia = address.source_ia;
-    let to = address.destination;
-    let from = address.source;
-    ScionHeaders {
-        version: made.version,
-        traffic_class: made.traffic_class,
-        next_header: made.next_header,
-        path_type: made.path_type,
-        reserved: made.reserved,
-        flow_id: made.flow_id,
-        header_length_factor: made.header_length_factor,
-        payload_length: made.payload_length,
-        destination_ia: destination_ia.0,
-        source_ia: source_ia.0,
-        destination: host_out(to),
-        source: host_out(from),
-    }
-}
-
-// The answer of a writer.
-fn encoded_out(answer: Encoded) -> ScionAnswer
-    ensures { λ r. ⌜ r ≡ spec.encodedOut answer ⌝ }
-{
-    match answer {
-        Encoded::Done => ScionAnswer {
-            number: 0,
-            value: 0,
-        },
-        Encoded::Refused(error) => {
-            let number = error.number();
-            ScionAnswer { number, value: 0 }
-        }
-    }
-}
+ghost use Rattle.scion_records.specs.Packets as spec;
 
 // Splits the packet that begins `bytes`.
 #[no_mangle]
@@ -289,4 +105,37 @@ pub extern "C" fn scion_write_headers(
         ≡ encoded (headers.encoding (spec.headersIn given) (length (now (path .entry))) (length (now (dst .entry)))) (headers.headerBytes (spec.headersIn given) (now (path .entry))) (now (dst .entry)) ⌝ }
 {
     encoded_out(headers_in(given).encode_to(path, dst))
+}
+
+// Writes the headers that `scion_new_headers` makes and the path to `dst`, or leaves it as it is: both calls in one.
+#[no_mangle]
+pub extern "C" fn scion_write_new_headers(
+    destination_ia: u64,
+    destination: ScionHost,
+    source_ia: u64,
+    source: ScionHost,
+    path_type: u8,
+    next_header: u8,
+    payload_length: usize,
+    flow_id: u32,
+    path: &[u8],
+    dst: &mut [u8],
+) -> ScionAnswer
+    ensures { λ r.
+        ⌜ r
+        ≡ spec.encodedOut (headers.encoding (headers.newHeaders (spec.addressIn «destination_ia» destination «source_ia» source) «path_type» (length (now (path .entry))) «next_header» «payload_length» «flow_id») (length (now (path .entry))) (length (now (dst .entry)))) ⌝ }
+    ensures { λ _.
+        ⌜ now (dst .exit)
+        ≡ encoded (headers.encoding (headers.newHeaders (spec.addressIn «destination_ia» destination «source_ia» source) «path_type» (length (now (path .entry))) «next_header» «payload_length» «flow_id») (length (now (path .entry))) (length (now (dst .entry)))) (headers.headerBytes (headers.newHeaders (spec.addressIn «destination_ia» destination «source_ia» source) «path_type» (length (now (path .entry))) «next_header» «payload_length» «flow_id») (now (path .entry))) (now (dst .entry)) ⌝ }
+{
+    let address = address_in(destination_ia, destination, source_ia, source);
+    let made = Headers::new(
+        address,
+        path_type,
+        path.len(),
+        next_header,
+        payload_length,
+        flow_id,
+    );
+    encoded_out(made.encode_to(path, dst))
 }

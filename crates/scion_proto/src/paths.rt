@@ -1,154 +1,37 @@
 // The calls on paths: each takes the path's type byte beside its bytes, and hands the library's answer over.
-use crate::answer::ScionAnswer;
-use crate::answer::ScionPart;
-use crate::answer::ScionPath;
-use crate::answer::answer_out;
-use crate::answer::decoded_out;
-use crate::answer::part_out;
-use crate::answer::path_out;
 use moves::single_move;
 use moves::walk;
 use path::dataplane::DataplanePath;
-use path::dataplane::Expiry;
-use path::dataplane::PathAnswer;
 use path::standard::Part;
-use path_header::fields::HopField;
-use path_header::fields::InfoField;
-use path_header::fields::Interface;
+use path_fields::HopField;
+use path_fields::InfoField;
 use reverse::reverse_to_slice;
+use scion_records::answer::answer_out;
+use scion_records::answer::decoded_out;
+use scion_records::answer::part_out;
+use scion_records::answer::path_out;
+use scion_records::paths::ScionExpiry;
+use scion_records::paths::ScionHopField;
+use scion_records::paths::ScionInfoField;
+use scion_records::paths::ScionInterface;
+use scion_records::paths::ScionInterfaceCount;
+use scion_records::paths::ScionPathAnswer;
+use scion_records::paths::ScionPathRead;
+use scion_records::paths::ScionSegment;
+use scion_records::paths::ScionTimeLeft;
+use scion_records::paths::ScionWalk;
+use scion_records::paths::expiry_out;
+use scion_records::paths::interface_out;
+use scion_records::paths::path_answer_out;
 ghost use mathlib.Core.Path.{_≡_};
 ghost use Prim.Native.Nat.{_+_, _≤_};
 ghost use lib.ListN.{length};
 ghost use Rattle.path.specs.Dataplane as dataplane;
+ghost use Rattle.path_expiry.specs.Expiry as expiry;
+ghost use Rattle.path_interfaces.specs.Interfaces as interfaces;
 ghost use Rattle.reverse.specs.Reverse as reversal;
 ghost use Rattle.moves.specs.Moves as moves;
-ghost use Rattle.scion_proto.specs.Paths as spec;
-
-// Whether a call was carried out, and the record of the path as the call leaves it.
-#[repr(C)]
-pub struct ScionPathAnswer {
-    pub answer: ScionAnswer,
-    pub path: ScionPath,
-}
-
-// A path that was read, and how many of the bytes are the path's.
-#[repr(C)]
-pub struct ScionPathRead {
-    pub answer: ScionAnswer,
-    pub path: ScionPath,
-    pub length: usize,
-}
-
-// An info field and where it starts.
-#[repr(C)]
-pub struct ScionInfoField {
-    pub answer: ScionAnswer,
-    pub path: ScionPath,
-    pub start: usize,
-    pub flags: u8,
-    pub reserved: u8,
-    pub accumulator: u16,
-    pub timestamp: u32,
-}
-
-// A hop field and where it starts.
-#[repr(C)]
-pub struct ScionHopField {
-    pub answer: ScionAnswer,
-    pub path: ScionPath,
-    pub start: usize,
-    pub flags: u8,
-    pub exp_time: u8,
-    pub cons_ingress: u16,
-    pub cons_egress: u16,
-    pub mac: [u8; 6],
-}
-
-// A segment: where its info field and its hop fields lie.
-#[repr(C)]
-pub struct ScionSegment {
-    pub answer: ScionAnswer,
-    pub path: ScionPath,
-    pub info_field: ScionPart,
-    pub hop_fields: ScionPart,
-}
-
-// An expiry in ms since 1970.
-#[repr(C)]
-pub struct ScionExpiry {
-    pub answer: ScionAnswer,
-    pub path: ScionPath,
-    pub ms: u64,
-}
-
-// The time left in ms, below zero once the path has expired.
-#[repr(C)]
-pub struct ScionTimeLeft {
-    pub answer: ScionAnswer,
-    pub path: ScionPath,
-    pub ms: i64,
-}
-
-// The number of interfaces.
-#[repr(C)]
-pub struct ScionInterfaceCount {
-    pub answer: ScionAnswer,
-    pub path: ScionPath,
-    pub count: usize,
-}
-
-// An interface, 0 for none, and the hop field that it belongs to.
-#[repr(C)]
-pub struct ScionInterface {
-    pub answer: ScionAnswer,
-    pub path: ScionPath,
-    pub hop_field: usize,
-    pub interface: u16,
-}
-
-// How many moves a walk made, and whether it stands at the last hop field.
-#[repr(C)]
-pub struct ScionWalk {
-    pub answer: ScionAnswer,
-    pub path: ScionPath,
-    pub moves: usize,
-    pub arrived: bool,
-}
-
-// The answer of a call, and the record of the path as the call leaves it.
-fn path_answer_out(given: PathAnswer) -> ScionPathAnswer
-    ensures { λ r. ⌜ r ≡ spec.pathAnswerOut given ⌝ }
-{
-    let answer = given.answer;
-    let path = given.path;
-    ScionPathAnswer {
-        answer: answer_out(answer),
-        path: path_out(path),
-    }
-}
-
-// An expiry.
-fn expiry_out(expiry: Expiry) -> ScionExpiry
-    ensures { λ r. ⌜ r ≡ spec.expiryOut expiry ⌝ }
-{
-    let answer = expiry.answer;
-    let path = expiry.path;
-    ScionExpiry {
-        answer: answer_out(answer),
-        path: path_out(path),
-        ms: expiry.ms,
-    }
-}
-
-// The number of an interface on the wire.
-fn interface_out(interface: Interface) -> u16
-    ensures { λ r. ⌜ r ≡ spec.interfaceNumber interface ⌝ }
-{
-    match interface {
-        Interface::None => 0,
-        Interface::Id(number) => number,
-    }
-}
+ghost use Rattle.scion_records.specs.Paths as spec;
 
 // The bytes of a part, which lies among them.
 fn bytes_of(bytes: &[u8], part: Part) -> &[u8]
@@ -240,25 +123,25 @@ pub extern "C" fn scion_segment(path_type: u8, bytes: &[u8], index: usize) -> Sc
 // The expiry of segment `index`.
 #[no_mangle]
 pub extern "C" fn scion_segment_expiry(path_type: u8, bytes: &[u8], index: usize) -> ScionExpiry
-    ensures { λ r. ⌜ r ≡ spec.expiryOut (dataplane.segmentExpiryIn «path_type» (now (bytes .entry)) index) ⌝ }
+    ensures { λ r. ⌜ r ≡ spec.expiryOut (expiry.segmentExpiryIn «path_type» (now (bytes .entry)) index) ⌝ }
 {
-    expiry_out(DataplanePath::new(path_type).segment_expiry_time(bytes, index))
+    expiry_out(path_expiry::segment_expiry_time(DataplanePath::new(path_type), bytes, index))
 }
 
 // The expiry of the path.
 #[no_mangle]
 pub extern "C" fn scion_expiry(path_type: u8, bytes: &[u8]) -> ScionExpiry
-    ensures { λ r. ⌜ r ≡ spec.expiryOut (dataplane.expiryIn «path_type» (now (bytes .entry))) ⌝ }
+    ensures { λ r. ⌜ r ≡ spec.expiryOut (expiry.expiryIn «path_type» (now (bytes .entry))) ⌝ }
 {
-    expiry_out(DataplanePath::new(path_type).expiry_time(bytes))
+    expiry_out(path_expiry::expiry_time(DataplanePath::new(path_type), bytes))
 }
 
 // The path's expiry less `at`, a time of 0 to 9,000,000,000,000 ms.
 #[no_mangle]
 pub extern "C" fn scion_time_left(path_type: u8, bytes: &[u8], at: u64) -> ScionTimeLeft
-    ensures { λ r. ⌜ r ≡ spec.timeLeftOut (dataplane.timeLeftIn «path_type» (now (bytes .entry)) at) ⌝ }
+    ensures { λ r. ⌜ r ≡ spec.timeLeftOut (expiry.timeLeftIn «path_type» (now (bytes .entry)) at) ⌝ }
 {
-    let left = DataplanePath::new(path_type).time_left(bytes, at);
+    let left = path_expiry::time_left(DataplanePath::new(path_type), bytes, at);
     let answer = left.answer;
     let path = left.path;
     ScionTimeLeft {
@@ -271,9 +154,9 @@ pub extern "C" fn scion_time_left(path_type: u8, bytes: &[u8], at: u64) -> Scion
 // The number of interfaces on the path.
 #[no_mangle]
 pub extern "C" fn scion_interfaces_count(path_type: u8, bytes: &[u8]) -> ScionInterfaceCount
-    ensures { λ r. ⌜ r ≡ spec.interfaceCountOut (dataplane.interfacesIn «path_type» (now (bytes .entry))) ⌝ }
+    ensures { λ r. ⌜ r ≡ spec.interfaceCountOut (interfaces.interfacesIn «path_type» (now (bytes .entry))) ⌝ }
 {
-    let interfaces = DataplanePath::new(path_type).interfaces_count(bytes);
+    let interfaces = path_interfaces::interfaces_count(DataplanePath::new(path_type), bytes);
     let answer = interfaces.answer;
     let path = interfaces.path;
     ScionInterfaceCount {
@@ -286,9 +169,9 @@ pub extern "C" fn scion_interfaces_count(path_type: u8, bytes: &[u8]) -> ScionIn
 // Interface `index` in the order of travel, and its hop field.
 #[no_mangle]
 pub extern "C" fn scion_interface(path_type: u8, bytes: &[u8], index: usize) -> ScionInterface
-    ensures { λ r. ⌜ r ≡ spec.interfaceOut (dataplane.interfaceIn «path_type» (now (bytes .entry)) index) ⌝ }
+    ensures { λ r. ⌜ r ≡ spec.interfaceOut (interfaces.interfaceIn «path_type» (now (bytes .entry)) index) ⌝ }
 {
-    let found = DataplanePath::new(path_type).interface(bytes, index);
+    let found = path_interfaces::interface(DataplanePath::new(path_type), bytes, index);
     let answer = found.answer;
     let path = found.path;
     let interface = found.interface;
@@ -308,10 +191,15 @@ pub extern "C" fn scion_set_ingress_router_alert(
     index: usize,
     on: bool,
 ) -> ScionPathAnswer
-    ensures { λ r. ⌜ r ≡ spec.pathAnswerOut (dataplane.alertAnswer «path_type» (now (bytes .entry)) index) ⌝ }
-    ensures { λ _. ⌜ now (bytes .exit) ≡ dataplane.alerted 1 on «path_type» (now (bytes .entry)) index ⌝ }
+    ensures { λ r. ⌜ r ≡ spec.pathAnswerOut (interfaces.alertAnswer «path_type» (now (bytes .entry)) index) ⌝ }
+    ensures { λ _. ⌜ now (bytes .exit) ≡ interfaces.alerted 1 on «path_type» (now (bytes .entry)) index ⌝ }
 {
-    path_answer_out(DataplanePath::new(path_type).set_cons_ingress_router_alert(bytes, index, on))
+    path_answer_out(path_interfaces::set_cons_ingress_router_alert(
+        DataplanePath::new(path_type),
+        bytes,
+        index,
+        on,
+    ))
 }
 
 // Sets or clears the egress alert flag of hop field `index`.
@@ -322,10 +210,15 @@ pub extern "C" fn scion_set_egress_router_alert(
     index: usize,
     on: bool,
 ) -> ScionPathAnswer
-    ensures { λ r. ⌜ r ≡ spec.pathAnswerOut (dataplane.alertAnswer «path_type» (now (bytes .entry)) index) ⌝ }
-    ensures { λ _. ⌜ now (bytes .exit) ≡ dataplane.alerted 0 on «path_type» (now (bytes .entry)) index ⌝ }
+    ensures { λ r. ⌜ r ≡ spec.pathAnswerOut (interfaces.alertAnswer «path_type» (now (bytes .entry)) index) ⌝ }
+    ensures { λ _. ⌜ now (bytes .exit) ≡ interfaces.alerted 0 on «path_type» (now (bytes .entry)) index ⌝ }
 {
-    path_answer_out(DataplanePath::new(path_type).set_cons_egress_router_alert(bytes, index, on))
+    path_answer_out(path_interfaces::set_cons_egress_router_alert(
+        DataplanePath::new(path_type),
+        bytes,
+        index,
+        on,
+    ))
 }
 
 // A single move.

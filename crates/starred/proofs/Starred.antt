@@ -2,13 +2,14 @@
 -- Assumes nothing.
 use mathlib.Core.Path.{_≡_, refl}
 use Rattle.wire_encoding.specs.BigEndian.{bigEndian, bytesOf, numberAt, room}
-use Rattle.path_header.specs.MetaHeader as meta
-use Rattle.path_header.specs.Fields as fields
+use Rattle.path_meta_header.specs.MetaHeader as meta
+use Rattle.path_fields.specs.Fields as fields
 use Rattle.path.specs.Standard as standard
-use Rattle.path.specs.Segment as segment
 use Rattle.path.specs.Dataplane as dataplane
+use Rattle.path_expiry.specs.Expiry as expiry
+use Rattle.path_interfaces.specs.Interfaces as interfaces
 use Rattle.moves.specs.Moves as moves
-use Rattle.packet_header.specs.CommonHeader as common
+use Rattle.common_header.specs.CommonHeader as common
 use Rattle.packet.specs.Raw as raw
 use Rattle.starred.specs.Table.{reading, splitting, expiring, interfaceOfTwoByTwo, moving, answers, wanted}
 
@@ -18,9 +19,9 @@ unfolding answers wanted reading splitting expiring interfaceOfTwoByTwo moving b
     meta.interfacesCount meta.segmentOfLink meta.hopFieldOf meta.lengthsValid meta.hopValid meta.infoValid meta.firstRefusal meta.checked meta.settled meta.metaRead meta.readMeta
     fields.infoFieldAt fields.hopFieldAt fields.expiryOffset fields.expiryTime
     standard.zeroPath standard.pathRefused standard.complete standard.readPath
-    segment.least segment.hopExpiry segment.segmentExpiry segment.pathExpiry
+    expiry.least expiry.hopExpiry expiry.segmentExpiry expiry.pathExpiry
     dataplane.unread dataplane.standardRead dataplane.readDataplane dataplane.answerRefused dataplane.standardAnswer dataplane.standardOf
-    dataplane.carriedOut dataplane.onStandard dataplane.expiryIn dataplane.interfaceFound dataplane.interfaceIn dataplane.answered
+    dataplane.carriedOut dataplane.onStandard expiry.expiryIn interfaces.interfaceFound interfaces.interfaceIn dataplane.answered
     moves.ownerOf moves.spared moves.changeInside moves.positionOf moves.moveFrom moves.atPosition moves.applied moves.movedMeta moves.moveBytes
     moves.peerings moves.peeringAllowed moves.stateOf moves.movableOf moves.onMovable moves.notLast moves.moveAnswer moves.moved
     common.commonRefused common.readCommon raw.packetRefused raw.commonFound raw.readPacket

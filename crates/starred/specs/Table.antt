@@ -2,8 +2,10 @@
 use Prim.Native.Nat.{ℕ}
 use mathlib.Core.List.{List, [], _∷_, _++_}
 use lib.ListN.{replicate}
-use Rattle.path_header.specs.Errors.{decodedNumber, decodedValue, answerNumber}
-use Rattle.path.specs.Dataplane.{readDataplane, expiryIn, interfaceIn}
+use Rattle.path_error.specs.Errors.{decodedNumber, decodedValue, answerNumber}
+use Rattle.path.specs.Dataplane.{readDataplane}
+use Rattle.path_expiry.specs.Expiry.{expiryIn}
+use Rattle.path_interfaces.specs.Interfaces.{interfaceIn}
 use Rattle.wire_encoding.specs.BigEndian.{bigEndian}
 use Rattle.moves.specs.Moves.{moveAnswer, moved}
 use Rattle.packet.specs.Raw.{readPacket}

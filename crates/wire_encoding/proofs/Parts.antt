@@ -6,7 +6,7 @@ use Prim.Native.Nat.{ℕ, zero, suc, _+_, _≤_, _<_}
 use native.Mathlib.Nat.{add-assoc, add-zero, add-suc, suc-add}
 use native.Mathlib.Omega.{arith}
 use lib.ListN.{length, take, drop, getD, set, length-take, length-drop, drop-of-length-le, take-append-drop}
-use lib.Seq.{sets, sets-eq, set-comm, drop-cons, take-suc, getD-drop, getD-take, take-add, ext-getD}
+use lib.Seq.{sets, sets-eq, set-comm, drop-cons, take-suc, getD-drop, getD-take, drop-drop, take-add, ext-getD}
 use mir.Val.{Fits}
 use mir.Syntax.{w8}
 use Rattle.wire_encoding.specs.BigEndian.{part}
@@ -34,6 +34,11 @@ sets-append [] ys l at = ap (λ (n : ℕ). sets l n ys) (sym (add-zero at))
 sets-append (x ∷ xs) ys l at =
     sets-append xs ys (set l at x) (suc at)
     ∙ ap (λ (n : ℕ). sets (sets (set l at x) (suc at) xs) n ys) (suc-add at (length xs) ∙ sym (add-suc at (length xs)))
+
+-- the same where the first run has n bytes
+pub written-after : (xs ys l : List ℕ) (at n : ℕ) → length xs ≡ n → sets (sets l at xs) (at + n) ys ≡ sets l at (xs ++ ys)
+written-after xs ys l at n size =
+    sym (sets-append xs ys l at ∙ ap (λ (m : ℕ). sets (sets l at xs) (at + m) ys) size)
 
 -- a write of the whole
 pub sets-whole : (xs l : List ℕ) → length xs ≡ length l → sets l 0 xs ≡ xs
@@ -67,6 +72,21 @@ pub part-bytes : (n at : ℕ) (bytes : List ℕ) → at + n ≤ length bytes →
 part-bytes zero at bytes h = refl
 part-bytes (suc n) at bytes h =
     part-cons at n bytes (omega arith) ∙ ap (λ (r : List ℕ). getD bytes at 0 ∷ r) (part-bytes n (suc at) bytes (omega arith))
+
+-- parts side by side are one part
+pub part-join : (at m n : ℕ) (bytes : List ℕ) → part at m bytes ++ part (at + m) n bytes ≡ part at (m + n) bytes
+part-join at m n bytes =
+    ap (λ (l : List ℕ). part at m bytes ++ take n l) (sym (drop-drop m at bytes)) ∙ sym (take-add m n (drop at bytes))
+
+-- a part of bytes is bytes
+bytes-take : (n : ℕ) (l : List ℕ) → Bytes l → Bytes (take n l)
+bytes-take zero l b k = omega arith
+bytes-take (suc n) [] b k = omega arith
+bytes-take (suc n) (x ∷ l) b zero = b zero
+bytes-take (suc n) (x ∷ l) b (suc k) = bytes-take n l (λ i. b (suc i)) k
+
+pub bytes-part : (at n : ℕ) (bytes : List ℕ) → Bytes bytes → Bytes (part at n bytes)
+bytes-part at n bytes b = bytes-take n (drop at bytes) (λ k. rw (getD-drop at bytes k 0) (b (at + k)))
 
 -- byte i of a part
 pub getD-part : (at n : ℕ) (bytes : List ℕ) (i : ℕ) → i < n → getD (part at n bytes) i 0 ≡ getD bytes (at + i) 0

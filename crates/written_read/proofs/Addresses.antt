@@ -8,17 +8,16 @@ use native.Mathlib.Omega.{arith}
 use lib.ListN.{length, take, length-append}
 use borrow.Author.Tests.{le-ltb}
 use Rattle.wire_encoding.specs.BigEndian.{bigEndian, bytesOf}
-use Rattle.wire_encoding.proofs.Parts.{Bytes}
+use Rattle.wire_encoding.proofs.Parts.{Bytes, part-join}
 use Rattle.wire_encoding.proofs.Numbers.{length-bytesOf, bytes-read, read-bytesOf}
-use Rattle.path_header.specs.declared.error.Decoded.the-variants.{Accepted}
-use Rattle.packet_header.specs.CommonHeader.{hostLength}
-use Rattle.packet_header.specs.AddressHeader.{kindOf, hostAt, lengthOfKinds, addressLength, addressAt, readAddress}
-use Rattle.packet_header.specs.Encoding.{hostBytes, addressBytes}
-use Rattle.packet_header.specs.declared.address_header.AddressHeader.{AddressHeader}
-use Rattle.packet_header.specs.declared.address_header.AddressHeaderRead.{AddressHeaderRead}
-use Rattle.packet_header.proofs.EncodingLaws.{Sixteen, length-hostBytes, length-addressBytes}
+use Rattle.path_error.specs.declared.Decoded.the-variants.{Accepted}
+use Rattle.common_header.specs.CommonHeader.{hostLength}
+use Rattle.address_header.specs.AddressHeader.{kindOf, hostAt, lengthOfKinds, addressLength, addressAt, readAddress}
+use Rattle.address_header.specs.Encoding.{hostBytes, addressBytes}
+use Rattle.address_header.specs.declared.AddressHeader.{AddressHeader}
+use Rattle.address_header.specs.declared.AddressHeaderRead.{AddressHeaderRead}
+use Rattle.address_header.proofs.EncodingLaws.{Sixteen, length-hostBytes, length-addressBytes, four-runs}
 use Rattle.written_read.specs.WrittenRead.{hostRead, addressRead, PaddingZero}
-use Rattle.written_read.proofs.Joined.{part-join}
 use Rattle.written_read.proofs.Hosts.{host-own, kind-read, host-written}
 
 -- READ AS IT WAS WRITTEN
@@ -58,8 +57,7 @@ module _ (a : AddressHeader) (after : List ℕ) (s : Sixteen a) where
   sk = kindOf (a .source .host)
 
   in-row : addressBytes a ++ after ≡ to ++ (from ++ (dst ++ (src ++ after)))
-  unfolding addressBytes
-  in-row = simp append-assoc
+  in-row = rw (four-runs a) (simp append-assoc)
 
   networks : length (to ++ from) ≡ 16
   networks = length-append to from ∙ ap₂ (λ (x y : ℕ). x + y) (length-bytesOf 8 _) (length-bytesOf 8 _)
@@ -110,12 +108,13 @@ module _ (bytes : List ℕ) (destination source : ℕ) where
 
   pub address-written : Bytes bytes → lengthOfKinds destination source ≤ length bytes → PaddingZero destination bytes 16
       → PaddingZero source bytes (16 + hostLength destination) → addressBytes (addressAt bytes destination source) ≡ take (lengthOfKinds destination source) bytes
-  unfolding addressBytes addressAt lengthOfKinds
+  unfolding addressAt lengthOfKinds
   address-written b long destination-zero source-zero =
       let d : ℕ = hostLength destination in
       let s : ℕ = hostLength source in
       let sum : 8 + (8 + (d + s)) ≡ 16 + d + s = omega arith in
       rw (
+        four-runs (addressAt bytes destination source),
         bytes-read 8 bytes b 0 (omega arith),
         bytes-read 8 bytes b 8 (omega arith),
         host-written destination 16 bytes b (omega arith) destination-zero,

@@ -10,12 +10,12 @@ use borrow.Author.Tests.{le-ltb, eq-eqb, ne-eqb}
 use Rattle.wire_encoding.specs.BigEndian.{bigEndian, bytesOf}
 use Rattle.wire_encoding.proofs.Parts.{Bytes, bytesFrom, part-bytes}
 use Rattle.wire_encoding.proofs.Numbers.{below, bytes-read, read-bytesOf}
-use Rattle.path_header.specs.declared.error.Decoded.the-variants.{Accepted}
-use Rattle.packet_header.specs.CommonHeader.{commonOf, readCommon, versionOf, factorOf}
-use Rattle.packet_header.specs.Encoding.{commonBytes}
-use Rattle.packet_header.specs.declared.common_header.CommonHeader.{CommonHeader}
-use Rattle.packet_header.specs.declared.common_header.CommonHeaderRead.{CommonHeaderRead}
-use Rattle.packet_header.proofs.EncodingLaws.{Widths, first-fits}
+use Rattle.path_error.specs.declared.Decoded.the-variants.{Accepted}
+use Rattle.common_header.specs.CommonHeader.{commonOf, readCommon, versionOf, factorOf}
+use Rattle.common_header.specs.Encoding.{commonBytes}
+use Rattle.common_header.specs.declared.CommonHeader.{CommonHeader}
+use Rattle.common_header.specs.declared.CommonHeaderRead.{CommonHeaderRead}
+use Rattle.common_header.proofs.EncodingLaws.{Widths, first-fits}
 
 -- READ AS IT WAS WRITTEN
 

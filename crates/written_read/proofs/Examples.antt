@@ -11,15 +11,16 @@ use borrow.Author.Tests.{ltb-true}
 use Rattle.wire_encoding.specs.Choice.{pick}
 use Rattle.wire_encoding.specs.BigEndian.{bigEndian, bytesOf, numberAt, room, part}
 use Rattle.address.specs.declared.host.HostAddr.the-variants.{V4, Svc}
-use Rattle.path_header.specs.Errors.{decodedNumber}
-use Rattle.path_header.specs.declared.error.Decoded.the-variants as decoded
-use Rattle.path_header.specs.MetaHeader as meta
+use Rattle.path_error.specs.Errors.{decodedNumber}
+use Rattle.path_error.specs.declared.Decoded.the-variants as decoded
+use Rattle.path_meta_header.specs.MetaHeader as meta
 use Rattle.path.specs.Standard as standard
 use Rattle.path.specs.Dataplane as dataplane
-use Rattle.packet_header.specs.CommonHeader as common
-use Rattle.packet_header.specs.AddressHeader as address
-use Rattle.packet_header.specs.Encoding as encoding
-use Rattle.packet_header.specs.declared.address_header.MaybeEncoded.the-variants.{Decoded, Encoded}
+use Rattle.common_header.specs.CommonHeader as common
+use Rattle.address_header.specs.AddressHeader as address
+use Rattle.common_header.specs.Encoding as common-encoding
+use Rattle.address_header.specs.Encoding as address-encoding
+use Rattle.address_header.specs.declared.MaybeEncoded.the-variants.{Decoded, Encoded}
 use Rattle.packet.specs.Raw as raw
 use Rattle.packet.specs.Raw.{readPacket}
 use Rattle.headers.specs.Headers as headers
@@ -119,7 +120,8 @@ unfolding bigEndian bytesOf numberAt room
     dataplane.unread dataplane.standardRead dataplane.readDataplane
     common.commonOf common.readCommon common.headerLength common.hostLength
     address.kindOf address.hostOfKind address.padded address.hostAt address.lengthOfKinds address.addressLength address.addressAt address.readAddress
-    encoding.fieldsFit encoding.commonFits encoding.commonBytes encoding.serviceBytes encoding.rawOf encoding.hostBytes encoding.addressBytes
+    common-encoding.fieldsFit common-encoding.commonFits common-encoding.commonBytes address-encoding.serviceBytes address-encoding.rawOf address-encoding.hostOnWire address-encoding.onWire
+    address-encoding.wireHostBytes address-encoding.wireBytes address-encoding.addressBytes
     raw.headerEnd raw.afterPath raw.pathFound raw.afterAddress raw.addressFound raw.afterCommon raw.commonFound raw.readPacket
     headers.addedLength headers.addedBytes headers.headersLength headers.commonOf headers.encoding headers.headerBytes
     round.headersOf answersOf small standardPacket servicePacket paddedPacket shortPacket standardHeaders standardPath serviceHeaders servicePath

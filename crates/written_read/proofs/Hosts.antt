@@ -12,17 +12,16 @@ use lib.Dec.{eqb}
 use borrow.Author.Tests.{eqb-true}
 use Rattle.wire_encoding.specs.Choice.{pick}
 use Rattle.wire_encoding.specs.BigEndian.{bigEndian, bytesOf, part}
-use Rattle.wire_encoding.proofs.Parts.{Bytes, length-part}
+use Rattle.wire_encoding.proofs.Parts.{Bytes, length-part, part-join}
 use Rattle.wire_encoding.proofs.Numbers.{below, bytes-read, read-bytesOf}
 use Rattle.address.specs.declared.host.HostAddr.the-variants.{V4, V6, Svc}
-use Rattle.packet_header.specs.CommonHeader.{hostLength}
-use Rattle.packet_header.specs.AddressHeader.{kindOf, hostOfKind, padded, hostAt}
-use Rattle.packet_header.specs.Encoding.{serviceBytes, rawOf, hostBytes}
-use Rattle.packet_header.specs.declared.address_header.MaybeEncoded.the-variants.{Decoded, Encoded}
-use Rattle.packet_header.specs.declared.address_header.HostAddress.{HostAddress}
-use Rattle.packet_header.proofs.EncodingLaws.{host-few}
+use Rattle.common_header.specs.CommonHeader.{hostLength}
+use Rattle.address_header.specs.AddressHeader.{kindOf, hostOfKind, padded, hostAt}
+use Rattle.address_header.specs.Encoding.{serviceBytes, rawOf, hostOnWire, wireHostBytes, hostBytes}
+use Rattle.address_header.specs.declared.MaybeEncoded.the-variants.{Decoded, Encoded}
+use Rattle.address_header.specs.declared.HostAddress.{HostAddress}
+use Rattle.common_header.proofs.EncodingLaws.{host-few}
 use Rattle.written_read.specs.WrittenRead.{hostRead, HostsReadBack, PaddingZero}
-use Rattle.written_read.proofs.Joined.{part-join}
 
 -- THE TWO FORMS OF A HOST THAT IS READ
 
@@ -93,7 +92,7 @@ kind-read kind bytes at = go (eqb kind 4) refl
 
 -- a service's four bytes
 service-bytes : (number : ℕ) → hostBytes (serviceHost number) ≡ bytesOf 2 number ++ (0 ∷ 0 ∷ [])
-unfolding hostBytes rawOf serviceBytes kindOf hostLength bytesOf
+unfolding hostBytes wireHostBytes hostOnWire rawOf serviceBytes kindOf hostLength bytesOf
 service-bytes number = refl
 
 service-part : (at : ℕ) (bytes : List ℕ) → Bytes bytes → at + 4 ≤ length bytes → part (at + 2) 2 bytes ≡ 0 ∷ 0 ∷ []
@@ -114,7 +113,7 @@ module _ (kind at : ℕ) (bytes : List ℕ) (inside : at + hostLength kind ≤ l
       ∙ take-at own (drop (0 + length own) (replicate 16 0)) (hostLength kind) size
 
   other-bytes : hostBytes (otherHost kind bytes at) ≡ part at (hostLength kind) bytes
-  unfolding hostBytes
+  unfolding hostBytes wireHostBytes hostOnWire
   other-bytes =
       ap₂ (λ (k : ℕ) (raw : List ℕ). take (hostLength k) raw) (kind-of-kind kind) (raw-of-kind kind (padded bytes at (hostLength kind)))
       ∙ padded-take

@@ -1,4 +1,3 @@
-pub mod Joined
 pub mod Hosts
 pub mod Commons
 pub mod Addresses

@@ -7,21 +7,22 @@ use native.Mathlib.Omega.{arith}
 use lib.ListN.{length, drop, replicate}
 use Rattle.wire_encoding.specs.BigEndian.{bigEndian, bytesOf}
 use Rattle.address.specs.declared.host.HostAddr.the-variants.{V4}
-use Rattle.path_header.specs.MetaHeader.{pathLength}
-use Rattle.path_header.specs.Errors.{decodedNumber}
-use Rattle.path_header.specs.declared.error.Decoded.{Decoded as Answer}
-use Rattle.path_header.specs.declared.error.Decoded.the-variants.{Accepted, Refused}
+use Rattle.path_meta_header.specs.MetaHeader.{pathLength}
+use Rattle.path_error.specs.Errors.{decodedNumber}
+use Rattle.path_error.specs.declared.Decoded.{Decoded as Answer}
+use Rattle.path_error.specs.declared.Decoded.the-variants.{Accepted, Refused}
 use Rattle.path.specs.Standard.{readPath}
 use Rattle.path.specs.Dataplane as dataplane
 use Rattle.path.specs.Dataplane.{readDataplane, standardRead}
-use Rattle.packet_header.specs.CommonHeader as common
-use Rattle.packet_header.specs.CommonHeader.{hostLength}
-use Rattle.packet_header.specs.AddressHeader as address
-use Rattle.packet_header.specs.AddressHeader.{lengthOfKinds, addressLength}
-use Rattle.packet_header.specs.Encoding as encode
-use Rattle.packet_header.specs.declared.address_header.MaybeEncoded.the-variants.{Decoded}
-use Rattle.packet_header.specs.declared.address_header.AddressHeader.{AddressHeader}
-use Rattle.packet_header.specs.declared.error.Encoded.the-variants.{Done}
+use Rattle.common_header.specs.CommonHeader as common
+use Rattle.common_header.specs.CommonHeader.{hostLength}
+use Rattle.address_header.specs.AddressHeader as address
+use Rattle.address_header.specs.AddressHeader.{lengthOfKinds, addressLength}
+use Rattle.common_header.specs.Encoding as common-encode
+use Rattle.address_header.specs.Encoding as address-encode
+use Rattle.address_header.specs.declared.MaybeEncoded.the-variants.{Decoded}
+use Rattle.address_header.specs.declared.AddressHeader.{AddressHeader}
+use Rattle.common_header.specs.declared.error.Encoded.the-variants.{Done}
 use Rattle.packet.specs.Raw as raw
 use Rattle.packet.specs.Raw.{readPacket}
 use Rattle.packet.specs.declared.raw.ScionPacketRaw.{ScionPacketRaw}
@@ -116,7 +117,8 @@ unfolding bigEndian bytesOf
     dataplane.unread dataplane.readDataplane
     common.commonOf common.readCommon common.headerLength common.hostLength
     address.kindOf address.lengthOfKinds address.addressLength address.readAddress
-    encode.fieldsFit encode.commonFits encode.commonBytes encode.rawOf encode.hostBytes encode.addressBytes
+    common-encode.fieldsFit common-encode.commonFits common-encode.commonBytes address-encode.rawOf address-encode.hostOnWire address-encode.onWire
+    address-encode.wireHostBytes address-encode.wireBytes address-encode.addressBytes
     raw.headerEnd raw.afterPath raw.pathFound raw.afterAddress raw.addressFound raw.afterCommon raw.commonFound raw.readPacket
     addedLength addedBytes headersLength newHeaders commonOf encoding headerBytes
 lost = (refl, refl, refl)

@@ -8,14 +8,16 @@ use lib.ListN.{length, take, length-append}
 use lib.Seq.{take-at, drop-at}
 use borrow.Author.Tests.{le-ltb, eq-eqb}
 use Rattle.wire_encoding.specs.BigEndian.{part}
-use Rattle.path_header.specs.declared.error.Decoded.the-variants.{Accepted}
+use Rattle.path_error.specs.declared.Decoded.the-variants.{Accepted}
 use Rattle.path.specs.Dataplane.{readDataplane}
-use Rattle.packet_header.specs.CommonHeader.{readCommon, headerLength, hostLength}
-use Rattle.packet_header.specs.AddressHeader.{addressLength, lengthOfKinds, readAddress}
-use Rattle.packet_header.specs.Encoding.{commonBytes, addressBytes}
-use Rattle.packet_header.specs.declared.common_header.CommonHeader.{CommonHeader}
-use Rattle.packet_header.specs.declared.address_header.AddressHeader.{AddressHeader}
-use Rattle.packet_header.proofs.EncodingLaws.{common-widths, length-commonBytes, Sixteen, length-addressBytes}
+use Rattle.common_header.specs.CommonHeader.{readCommon, headerLength, hostLength}
+use Rattle.address_header.specs.AddressHeader.{addressLength, lengthOfKinds, readAddress}
+use Rattle.common_header.specs.Encoding.{commonBytes}
+use Rattle.address_header.specs.Encoding.{addressBytes}
+use Rattle.common_header.specs.declared.CommonHeader.{CommonHeader}
+use Rattle.address_header.specs.declared.AddressHeader.{AddressHeader}
+use Rattle.common_header.proofs.EncodingLaws.{common-widths, length-commonBytes}
+use Rattle.address_header.proofs.EncodingLaws.{Sixteen, length-addressBytes}
 use Rattle.packet.specs.Raw.{headerEnd, afterPath, pathFound, afterAddress, addressFound, afterCommon, commonFound, readPacket}
 use Rattle.headers.specs.Headers.{addedBytes, headersLength, commonOf, headerBytes}
 use Rattle.headers.specs.declared.ScionHeaders.{ScionHeaders}

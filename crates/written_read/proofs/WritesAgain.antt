@@ -11,21 +11,21 @@ use lib.Dec.{eqb}
 use borrow.Author.Tests.{lt-ltb, le-ltb, eq-eqb, ne-eqb}
 use Rattle.wire_encoding.specs.Choice.{pick}
 use Rattle.wire_encoding.specs.BigEndian.{part}
-use Rattle.wire_encoding.proofs.Parts.{Bytes, length-part, part-part}
+use Rattle.wire_encoding.proofs.Parts.{Bytes, length-part, part-part, part-join, bytes-part}
 use Rattle.path.specs.Dataplane.{unread, readDataplane}
 use Rattle.path.specs.declared.dataplane.DataplaneRead.{DataplaneRead}
-use Rattle.packet_header.specs.CommonHeader.{commonOf, hostLength}
-use Rattle.packet_header.specs.AddressHeader.{addressAt, lengthOfKinds}
-use Rattle.packet_header.specs.Encoding.{fieldsFit, commonFits, addressBytes}
-use Rattle.packet_header.specs.declared.error.Encoded.the-variants.{Done}
-use Rattle.packet_header.proofs.EncodingLaws.{Widths}
+use Rattle.common_header.specs.CommonHeader.{commonOf, hostLength}
+use Rattle.address_header.specs.AddressHeader.{addressAt, lengthOfKinds}
+use Rattle.common_header.specs.Encoding.{fieldsFit, commonFits}
+use Rattle.address_header.specs.Encoding.{addressBytes}
+use Rattle.common_header.specs.declared.error.Encoded.the-variants.{Done}
+use Rattle.common_header.proofs.EncodingLaws.{Widths}
 use Rattle.packet.proofs.PacketLaws.{header-end-inside}
 use Rattle.headers.specs.Headers as headers
 use Rattle.headers.specs.Headers.{addedBytes, addedLength, headersLength, encoding, headerBytes}
 use Rattle.headers.specs.declared.ScionHeaders.{ScionHeaders}
 use Rattle.headers.proofs.WritingLaws.{length-addedBytes}
 use Rattle.written_read.specs.WrittenRead.{headersOf, PaddingZero, WritesAgain}
-use Rattle.written_read.proofs.Joined.{part-join, bytes-part}
 use Rattle.written_read.proofs.Hosts.{kind-read}
 use Rattle.written_read.proofs.Commons.{common-fields, common-written}
 use Rattle.written_read.proofs.Addresses.{address-length-read, address-written}

@@ -5,14 +5,14 @@ use mathlib.Core.Path.{_≡_}
 use mathlib.Core.List.{List, [], _∷_, _++_}
 use lib.ListN.{length, getD, take}
 use Rattle.wire_encoding.specs.BigEndian.{part}
-use Rattle.path_header.specs.declared.error.Decoded.the-variants.{Accepted}
+use Rattle.path_error.specs.declared.Decoded.the-variants.{Accepted}
 use Rattle.path.specs.Dataplane.{readDataplane, partIn}
-use Rattle.packet_header.specs.CommonHeader.{hostLength}
-use Rattle.packet_header.specs.AddressHeader.{kindOf, hostAt, addressLength}
-use Rattle.packet_header.specs.Encoding.{hostBytes}
-use Rattle.packet_header.specs.declared.address_header.HostAddress.{HostAddress}
-use Rattle.packet_header.specs.declared.address_header.AddressHeader.{AddressHeader}
-use Rattle.packet_header.specs.declared.error.Encoded.the-variants.{Done}
+use Rattle.common_header.specs.CommonHeader.{hostLength}
+use Rattle.address_header.specs.AddressHeader.{kindOf, hostAt, addressLength}
+use Rattle.address_header.specs.Encoding.{hostBytes}
+use Rattle.address_header.specs.declared.HostAddress.{HostAddress}
+use Rattle.address_header.specs.declared.AddressHeader.{AddressHeader}
+use Rattle.common_header.specs.declared.error.Encoded.the-variants.{Done}
 use Rattle.packet.specs.Raw.{readPacket}
 use Rattle.packet.specs.declared.raw.ScionPacketRaw.{ScionPacketRaw}
 use Rattle.headers.specs.Headers.{addedBytes, headersLength, commonOf, encoding, headerBytes}

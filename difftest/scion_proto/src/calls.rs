@@ -118,3 +118,31 @@ pub fn headers_length(headers: &Headers, path_len: usize) -> usize {
 pub fn write_headers(headers: &Headers, path: &[u8], dst: &mut [u8]) -> Answer {
     unsafe { c::scion_write_headers(*headers, path.as_ptr(), path.len(), dst.as_mut_ptr(), dst.len()) }
 }
+
+/// `scion_write_new_headers`.
+pub fn write_new_headers(
+    ends: &Ends,
+    path_type: u8,
+    next_header: u8,
+    payload_length: usize,
+    flow_id: u32,
+    path: &[u8],
+    dst: &mut [u8],
+) -> Answer {
+    unsafe {
+        c::scion_write_new_headers(
+            ends.destination_ia,
+            ends.destination,
+            ends.source_ia,
+            ends.source,
+            path_type,
+            next_header,
+            payload_length,
+            flow_id,
+            path.as_ptr(),
+            path.len(),
+            dst.as_mut_ptr(),
+            dst.len(),
+        )
+    }
+}

@@ -50,4 +50,18 @@ unsafe extern "C" {
         dst: *mut u8,
         dst_len: usize,
     ) -> Answer;
+    pub fn scion_write_new_headers(
+        destination_ia: u64,
+        destination: Host,
+        source_ia: u64,
+        source: Host,
+        path_type: u8,
+        next_header: u8,
+        payload_length: usize,
+        flow_id: u32,
+        path: *const u8,
+        path_len: usize,
+        dst: *mut u8,
+        dst_len: usize,
+    ) -> Answer;
 }

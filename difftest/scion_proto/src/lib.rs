@@ -94,6 +94,19 @@ pub fn write_headers(headers: &Headers, path: &[u8], dst: &mut [u8]) -> Result<(
     calls::write_headers(headers, path, dst).result().map(|_| ())
 }
 
+/// The headers that [`Headers::new`] makes for a path, and the path, written into a destination of their length.
+pub fn write_new_headers(
+    ends: &Ends,
+    path_type: u8,
+    next_header: u8,
+    payload_length: usize,
+    flow_id: u32,
+    path: &[u8],
+    dst: &mut [u8],
+) -> Result<(), Refusal> {
+    calls::write_new_headers(ends, path_type, next_header, payload_length, flow_id, path, dst).result().map(|_| ())
+}
+
 impl Headers {
     /// Headers between two hosts: version, traffic class and reserved 0, and the factor that follows from the lengths.
     pub fn new(

@@ -2,7 +2,7 @@
 use borrow.Author.Needs.{needs}
 use borrow.Author.Tests.{lt-ltb, le-ltb, eq-eqb, ne-eqb}
 use native.Mathlib.Omega.{arith}
-use Rattle.path_header.specs.MetaHeader.{pathLength}
+use Rattle.path_meta_header.specs.MetaHeader.{pathLength}
 use Rattle.moves.specs.Moves.{stateOf, peeringAllowed}
 use Rattle.moves.proofs.state.Statement.{statement}
 use Rattle.moves.proofs.state.Tie as tie

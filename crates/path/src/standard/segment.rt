@@ -1,18 +1,14 @@
-// Segments: an info field and its run of hop fields; their expiry.
+// Segments: an info field and its run of hop fields.
 use crate::standard::Part;
 use crate::standard::StandardPath;
-use path_header::error::Answer;
-use path_header::error::PathError;
-use path_header::fields::HopField;
-use path_header::fields::InfoField;
-use path_header::fields::expiry;
-use path_header::meta_header::PathMetaHeader;
-use wire_encoding::read::u32_or_zero;
+use path_error::Answer;
+use path_error::PathError;
+use path_fields::HopField;
+use path_fields::InfoField;
+use path_meta_header::PathMetaHeader;
 ghost use mathlib.Core.Path.{_≡_};
-ghost use Prim.Native.Nat.{_+_, _-_, _/_, _≤_, _<_, min};
-ghost use lib.ListN.{length};
-ghost use Rattle.wire_encoding.specs.BigEndian.{bigEndian};
-ghost use Rattle.path_header.specs.MetaHeader as meta;
+ghost use Prim.Native.Nat.{_<_};
+ghost use Rattle.path_meta_header.specs.MetaHeader.{infoFieldsCount};
 ghost use Rattle.path.specs.Segment as spec;
 
 // A segment: where its info field and its hop fields lie; all zero where it was refused.
@@ -36,94 +32,37 @@ impl Segment {
         }
     }
 
+    // Segment `k` of a path that was read, which is there.
+    fn there(path: StandardPath, k: usize) -> Segment
+        requires { ⌜ k < infoFieldsCount (path .«meta_header») ⌝ }
+        ensures { λ r. ⌜ r ≡ spec.segmentOfPath path k ⌝ }
+    {
+        let count = path.meta_header.info_fields_count();
+        let info_field = Part {
+            start: PathMetaHeader::LENGTH + k * InfoField::LENGTH,
+            len: InfoField::LENGTH,
+        };
+        let hop_fields = Part {
+            start: PathMetaHeader::LENGTH
+                + count * InfoField::LENGTH
+                + path.meta_header.first_hop_field(k) * HopField::LENGTH,
+            len: path.meta_header.segment_length(k) * HopField::LENGTH,
+        };
+        Segment {
+            answer: Answer::Accepted,
+            path,
+            info_field,
+            hop_fields,
+        }
+    }
+
     // Segment `k` of a path that was read.
     pub(crate) fn of(path: StandardPath, k: usize) -> Segment
         ensures { λ r. ⌜ r ≡ spec.segmentOfPath path k ⌝ }
     {
-        let meta_header = path.meta_header;
-        let count = meta_header.info_fields_count();
-        if k < count {
-            return Segment {
-                answer: Answer::Accepted,
-                path,
-                info_field: Part {
-                    start: PathMetaHeader::LENGTH + k * InfoField::LENGTH,
-                    len: InfoField::LENGTH,
-                },
-                hop_fields: Part {
-                    start: PathMetaHeader::LENGTH
-                        + count * InfoField::LENGTH
-                        + meta_header.first_hop_field(k) * HopField::LENGTH,
-                    len: meta_header.segment_length(k) * HopField::LENGTH,
-                },
-            };
+        if k < path.meta_header.info_fields_count() {
+            return Segment::there(path, k);
         }
         Segment::refused(PathError::NoSuchField)
     }
-}
-
-// The lesser of two numbers.
-fn lesser(a: u64, b: u64) -> u64
-    ensures { λ r. ⌜ r ≡ min a b ⌝ }
-{
-    if a < b { a } else { b }
-}
-
-// The lesser of two bytes.
-fn lesser_byte(a: u8, b: u8) -> u8
-    ensures { λ r. ⌜ r ≡ min a b ⌝ }
-{
-    if a < b { a } else { b }
-}
-
-// The least expiry byte of a run of hop fields, of which there is at least one.
-fn least_exp_time(hop_fields: &[u8]) -> u8
-    requires { ⌜ 12 ≤ length (now «hop_fields») ⌝ }
-    ensures { λ r. ⌜ r ≡ spec.least (spec.expTimeAt (now («hop_fields» .entry)) 0) (length (now («hop_fields» .entry)) / 12 - 1) ⌝ }
-{
-    let count = hop_fields.len() / HopField::LENGTH;
-    let mut least = hop_fields[1];
-    let mut last: usize = 0;
-    while last + 1 < count {
-        last += 1;
-        least = lesser_byte(least, hop_fields[last * HopField::LENGTH + 1]);
-    }
-    least
-}
-
-// The timestamp of the info field at `at`.
-fn timestamp_at(bytes: &[u8], at: usize) -> u32
-    requires { ⌜ at + 8 ≤ length (now bytes) ⌝ }
-    ensures { λ r. ⌜ r ≡ bigEndian 4 (now (bytes .entry)) (at + 4) ⌝ }
-{
-    u32_or_zero(bytes, at + 4)
-}
-
-// The expiry of segment `k`, which is there: the least of its hop fields'.
-pub(crate) fn segment_expiry(bytes: &[u8], meta_header: PathMetaHeader, k: usize) -> u64
-    requires { ⌜ (k < meta.infoFieldsCount «meta_header») × (meta.pathLength «meta_header» ≤ length (now bytes)) ⌝ }
-    ensures { λ r. ⌜ (r ≡ spec.segmentExpiry (now (bytes .entry)) «meta_header» k) × (r ≤ 4295053695000) ⌝ }
-{
-    let first = PathMetaHeader::LENGTH
-        + meta_header.info_fields_count() * InfoField::LENGTH
-        + meta_header.first_hop_field(k) * HopField::LENGTH;
-    let end = first + meta_header.segment_length(k) * HopField::LENGTH;
-    let timestamp = timestamp_at(bytes, PathMetaHeader::LENGTH + k * InfoField::LENGTH);
-    expiry(timestamp, least_exp_time(&bytes[first..end]))
-}
-
-// The expiry of a path that was read: the least of its segments'.
-pub(crate) fn path_expiry(bytes: &[u8], meta_header: PathMetaHeader) -> u64
-    requires { ⌜ (0 < meta.infoFieldsCount «meta_header») × (meta.pathLength «meta_header» ≤ length (now bytes)) ⌝ }
-    ensures { λ r. ⌜ (r ≡ spec.pathExpiry (now (bytes .entry)) «meta_header») × (r ≤ 4295053695000) ⌝ }
-{
-    let count = meta_header.info_fields_count();
-    let mut least = segment_expiry(bytes, meta_header, 0);
-    let mut last: usize = 0;
-    while last + 1 < count {
-        last += 1;
-        let next = segment_expiry(bytes, meta_header, last);
-        least = lesser(least, next);
-    }
-    least
 }

@@ -1,155 +1,32 @@
--- `reverse_info_field` meets its contract: the eight bytes are loaded before any is stored, and the flags' xor with 1 flips bit 0.
+-- `reverse_info_field` meets its contract: the flags are in the first four bytes, and the other four are copied.
+use mathlib.Core.Path.{_∙_}
 use native.Mathlib.Omega.{arith}
-use Prim.Native.Nat.{ℕ, suc, _+_, _<_}
-use lib.Dec.{lit<}
-use lib.ListN.{length, getD, set, length-set}
-use Rattle.wire_encoding.proofs.Parts.{part-cons}
-use Rattle.wire_encoding.proofs.Flags.{flip-bit}
-use Rattle.reverse.specs.Reverse.{flipped}
-use Rattle.reverse.proofs.Laws.{stores, inside, stored}
+use Rattle.reverse.proofs.Laws.{flipped-written}
 use borrow.Author.Needs.{needs}
 use Rattle.reverse.proofs.reverse_info_field.Statement.{statement}
 use Rattle.reverse.proofs.reverse_info_field.Tie as tie
 
--- each store after the first has its place, whatever the first store was
-next : (c : tie.After-shared-slice-known8) (first n : ℕ) → suc n < 8
-    → let a = c .before .before .before .before .before .before .before .before .args in
-    a .to + suc n < length (stores (a .src .now) (a .from) (set (a .dst .now) (a .to) first) (a .to) n)
-next c first n h = inside _ _ (c .before .before .before .before .before .before .before .before .args .dst .now) _ first n 8 (c .before .before .before .before .before .before .before .before .pre .1) h
+flip-4-requires : tie.Need-flip-4-requires
+flip-4-requires c κs = search needs
 
-shared-slice-read-b0 : tie.Need-shared-slice-read-b0
-shared-slice-read-b0 c = search needs
+add-copy-4 : tie.Need-add-copy-4
+add-copy-4 c = search needs
 
-add-b1 : tie.Need-add-b1
-add-b1 c = search needs
+add-copy-4-2 : tie.Need-add-copy-4-2
+add-copy-4-2 c = search needs
 
-shared-slice-read-b1 : tie.Need-shared-slice-read-b1
-shared-slice-read-b1 c = search needs
-
-add-b2 : tie.Need-add-b2
-add-b2 c = search needs
-
-shared-slice-read-b2 : tie.Need-shared-slice-read-b2
-shared-slice-read-b2 c = search needs
-
-add-b3 : tie.Need-add-b3
-add-b3 c = search needs
-
-shared-slice-read-b3 : tie.Need-shared-slice-read-b3
-shared-slice-read-b3 c = search needs
-
-add-b4 : tie.Need-add-b4
-add-b4 c = search needs
-
-shared-slice-read-b4 : tie.Need-shared-slice-read-b4
-shared-slice-read-b4 c = search needs
-
-add-b5 : tie.Need-add-b5
-add-b5 c = search needs
-
-shared-slice-read-b5 : tie.Need-shared-slice-read-b5
-shared-slice-read-b5 c = search needs
-
-add-b6 : tie.Need-add-b6
-add-b6 c = search needs
-
-shared-slice-read-b6 : tie.Need-shared-slice-read-b6
-shared-slice-read-b6 c = search needs
-
-add-b7 : tie.Need-add-b7
-add-b7 c = search needs
-
-shared-slice-read-b7 : tie.Need-shared-slice-read-b7
-shared-slice-read-b7 c = search needs
-
-slice-write-dst : tie.Need-slice-write-dst
-slice-write-dst c = search needs
-
-add-dst : tie.Need-add-dst
-add-dst c = search needs
-
-slice-write-dst-2 : tie.Need-slice-write-dst-2
-slice-write-dst-2 c = next c _ 0 (lit< tt)
-
-add-dst-2 : tie.Need-add-dst-2
-add-dst-2 c = search needs
-
-slice-write-dst-3 : tie.Need-slice-write-dst-3
-slice-write-dst-3 c = next c _ 1 (lit< tt)
-
-add-dst-3 : tie.Need-add-dst-3
-add-dst-3 c = search needs
-
-slice-write-dst-4 : tie.Need-slice-write-dst-4
-slice-write-dst-4 c = next c _ 2 (lit< tt)
-
-add-dst-4 : tie.Need-add-dst-4
-add-dst-4 c = search needs
-
-slice-write-dst-5 : tie.Need-slice-write-dst-5
-slice-write-dst-5 c = next c _ 3 (lit< tt)
-
-add-dst-5 : tie.Need-add-dst-5
-add-dst-5 c = search needs
-
-slice-write-dst-6 : tie.Need-slice-write-dst-6
-slice-write-dst-6 c = next c _ 4 (lit< tt)
-
-add-dst-6 : tie.Need-add-dst-6
-add-dst-6 c = search needs
-
-slice-write-dst-7 : tie.Need-slice-write-dst-7
-slice-write-dst-7 c = next c _ 5 (lit< tt)
-
-add-dst-7 : tie.Need-add-dst-7
-add-dst-7 c = search needs
-
-slice-write-dst-8 : tie.Need-slice-write-dst-8
-slice-write-dst-8 c = next c _ 6 (lit< tt)
+copy-4-requires : tie.Need-copy-4-requires
+copy-4-requires c κs = search needs
 
 same-length : tie.Need-same-length
-same-length c = simp length-set
+same-length c = search needs
 
 returns : tie.Need-returns
-unfolding flipped
 returns c =
-    let a = c .before .before .before .before .before .before .before .before .args in
-    rw (part-cons (a .from) 7 (a .src .now) (omega arith), ← flip-bit 0 (getD (a .src .now) (a .from) 0))
-    (stored (a .src .now) (a .from) (a .dst .now) (a .to) _ 7 (omega arith))
+    let a = c .before .before .before .before .before .before .before .before .before .before .args in
+    rw (c .before .before .before .before .before .before .flip-4 .ensures) at (c .before .before .copy-4 .ensures) ∙ flipped-written (a .src .now) (a .dst .now) (a .from) (a .to) (omega arith)
 
 pub reverse-info-field-spec : {M : Type 1} → statement M
 reverse-info-field-spec =
     tie.close
-    (tie.spec
-    shared-slice-read-b0
-    add-b1
-    shared-slice-read-b1
-    add-b2
-    shared-slice-read-b2
-    add-b3
-    shared-slice-read-b3
-    add-b4
-    shared-slice-read-b4
-    add-b5
-    shared-slice-read-b5
-    add-b6
-    shared-slice-read-b6
-    add-b7
-    shared-slice-read-b7
-    slice-write-dst
-    add-dst
-    slice-write-dst-2
-    add-dst-2
-    slice-write-dst-3
-    add-dst-3
-    slice-write-dst-4
-    add-dst-4
-    slice-write-dst-5
-    add-dst-5
-    slice-write-dst-6
-    add-dst-6
-    slice-write-dst-7
-    add-dst-7
-    slice-write-dst-8
-    same-length
-    returns)
+    (tie.spec flip-4-requires add-copy-4 add-copy-4-2 copy-4-requires same-length returns)

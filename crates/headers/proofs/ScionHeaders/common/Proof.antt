@@ -1,24 +1,19 @@
 -- `ScionHeaders::common` meets its contract: factor and payload length fit, so nothing is cut off.
+use Rattle.address_header.specs.Encoding.{hostOnWire, onWire}
 use Rattle.headers.specs.Headers.{commonOf}
 use borrow.Author.Needs.{needs}
 use Rattle.headers.proofs.ScionHeaders.common.Statement.{statement}
 use Rattle.headers.proofs.ScionHeaders.common.Tie as tie
 
-cast-t5 : tie.Need-cast-t5
-cast-t5 c = search needs
+cast-t3 : tie.Need-cast-t3
+cast-t3 c = search needs
 
-cast-t6 : tie.Need-cast-t6
-cast-t6 c = search needs
-
-kind-requires : tie.Need-kind-requires
-kind-requires c κs = search needs
-
-kind-requires-2 : tie.Need-kind-requires-2
-kind-requires-2 c κs = search needs
+cast-t4 : tie.Need-cast-t4
+cast-t4 c = search needs
 
 returns : tie.Need-returns
-unfolding commonOf
-returns c = rw (c .before .kind .ensures, c .kind2 .ensures)
+unfolding commonOf onWire hostOnWire
+returns c = rw (c .before .before .pre .1)
 
 pub common-spec : {M : Type 1} → statement M
-common-spec = tie.close (tie.spec cast-t5 cast-t6 kind-requires kind-requires-2 returns)
+common-spec = tie.close (tie.spec cast-t3 cast-t4 returns)

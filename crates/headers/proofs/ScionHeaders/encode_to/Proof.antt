@@ -1,9 +1,12 @@
 -- `ScionHeaders::encode_to` meets its contract: headers that the tests let through are written whole.
 use mathlib.Core.Path.{refl, sym, _∙_}
-use Rattle.packet_header.specs.Encoding.{encoded}
+use Rattle.common_header.specs.Encoding.{encoded}
 use borrow.Author.Needs.{needs}
 use Rattle.headers.proofs.ScionHeaders.encode_to.Statement.{statement}
 use Rattle.headers.proofs.ScionHeaders.encode_to.Tie as tie
+
+on-wire-requires : tie.Need-on-wire-requires
+on-wire-requires c κs = search needs
 
 check-requires : tie.Need-check-requires
 check-requires c κs = search needs
@@ -12,7 +15,7 @@ enum-told : tie.Need-enum-told
 enum-told c = search needs
 
 put-requires : tie.Need-put-requires
-put-requires c κs = record { done = sym (c .before .before .before .check .ensures) ∙ c .before .enum-told .given .1 }
+put-requires c κs = (record { done = sym (c .before .before .before .check .ensures) ∙ c .before .enum-told .given .1 }, c .before .before .before .before .on-wire .ensures)
 
 enum-known-error : tie.Need-enum-known-error
 enum-known-error c = search needs
@@ -36,4 +39,12 @@ returns-2 c =
 pub encode-to-spec : {M : Type 1} → statement M
 encode-to-spec =
     tie.close
-    (tie.spec check-requires enum-told put-requires enum-known-error same-length returns returns-2)
+    (tie.spec
+    on-wire-requires
+    check-requires
+    enum-told
+    put-requires
+    enum-known-error
+    same-length
+    returns
+    returns-2)

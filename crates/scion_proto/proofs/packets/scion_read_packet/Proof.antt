@@ -1,5 +1,5 @@
 -- `scion_read_packet` meets its contract: the library's packet, handed over.
-use Rattle.scion_proto.specs.Packets.{packetOut}
+use Rattle.scion_records.specs.Packets.{packetOut}
 use borrow.Author.Needs.{needs}
 use Rattle.scion_proto.proofs.packets.scion_read_packet.Statement.{statement}
 use Rattle.scion_proto.proofs.packets.scion_read_packet.Tie as tie

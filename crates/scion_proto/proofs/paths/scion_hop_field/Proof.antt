@@ -1,6 +1,6 @@
 -- `scion_hop_field` meets its contract: the field's part lies among the bytes, and its values are read from it.
 use Rattle.path.proofs.Reading.{hop-inside}
-use Rattle.scion_proto.specs.Paths.{hopFieldOut}
+use Rattle.scion_records.specs.Paths.{hopFieldOut}
 use borrow.Author.Needs.{needs}
 use Rattle.scion_proto.proofs.paths.scion_hop_field.Statement.{statement}
 use Rattle.scion_proto.proofs.paths.scion_hop_field.Tie as tie

@@ -1,6 +1,6 @@
 -- `scion_info_field` meets its contract: the field's part lies among the bytes, and its values are read from it.
 use Rattle.path.proofs.Reading.{info-inside}
-use Rattle.scion_proto.specs.Paths.{infoFieldOut}
+use Rattle.scion_records.specs.Paths.{infoFieldOut}
 use borrow.Author.Needs.{needs}
 use Rattle.scion_proto.proofs.paths.scion_info_field.Statement.{statement}
 use Rattle.scion_proto.proofs.paths.scion_info_field.Tie as tie

@@ -1,5 +1,5 @@
 -- `scion_interface` meets its contract: the library's interface, handed over.
-use Rattle.scion_proto.specs.Paths.{interfaceOut}
+use Rattle.scion_records.specs.Paths.{interfaceOut}
 use borrow.Author.Needs.{needs}
 use Rattle.scion_proto.proofs.paths.scion_interface.Statement.{statement}
 use Rattle.scion_proto.proofs.paths.scion_interface.Tie as tie

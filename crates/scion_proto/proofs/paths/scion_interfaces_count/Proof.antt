@@ -1,5 +1,5 @@
 -- `scion_interfaces_count` meets its contract: the library's count, handed over.
-use Rattle.scion_proto.specs.Paths.{interfaceCountOut}
+use Rattle.scion_records.specs.Paths.{interfaceCountOut}
 use borrow.Author.Needs.{needs}
 use Rattle.scion_proto.proofs.paths.scion_interfaces_count.Statement.{statement}
 use Rattle.scion_proto.proofs.paths.scion_interfaces_count.Tie as tie

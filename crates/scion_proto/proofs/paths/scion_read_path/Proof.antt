@@ -1,5 +1,5 @@
 -- `scion_read_path` meets its contract: the library's reading, handed over.
-use Rattle.scion_proto.specs.Paths.{pathReadOut}
+use Rattle.scion_records.specs.Paths.{pathReadOut}
 use borrow.Author.Needs.{needs}
 use Rattle.scion_proto.proofs.paths.scion_read_path.Statement.{statement}
 use Rattle.scion_proto.proofs.paths.scion_read_path.Tie as tie

@@ -1,5 +1,5 @@
 -- `scion_segment` meets its contract: the library's segment, handed over.
-use Rattle.scion_proto.specs.Paths.{segmentOut}
+use Rattle.scion_records.specs.Paths.{segmentOut}
 use borrow.Author.Needs.{needs}
 use Rattle.scion_proto.proofs.paths.scion_segment.Statement.{statement}
 use Rattle.scion_proto.proofs.paths.scion_segment.Tie as tie

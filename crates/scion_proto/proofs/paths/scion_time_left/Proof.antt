@@ -1,7 +1,7 @@
 -- `scion_time_left` meets its contract: the library's time left, handed over. What is stored is the signed number itself, since it fits.
 use mir.Syntax.{w64}
 use mir.Facts.{toZ-ofZ}
-use Rattle.scion_proto.specs.Paths.{timeLeftOut}
+use Rattle.scion_records.specs.Paths.{timeLeftOut}
 use borrow.Author.Needs.{needs}
 use Rattle.scion_proto.proofs.paths.scion_time_left.Statement.{statement}
 use Rattle.scion_proto.proofs.paths.scion_time_left.Tie as tie

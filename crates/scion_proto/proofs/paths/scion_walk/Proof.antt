@@ -1,6 +1,6 @@
 -- `scion_walk` meets its contract: the library's walk, its answer handed over.
 use mathlib.Core.Path.{refl}
-use Rattle.scion_proto.specs.Paths.{walkOut}
+use Rattle.scion_records.specs.Paths.{walkOut}
 use borrow.Author.Needs.{needs}
 use Rattle.scion_proto.proofs.paths.scion_walk.Statement.{statement}
 use Rattle.scion_proto.proofs.paths.scion_walk.Tie as tie

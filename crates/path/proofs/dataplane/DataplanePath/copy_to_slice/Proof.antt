@@ -1,10 +1,17 @@
 -- `copy_to_slice` meets its contract: reading, then the size, then the bytes.
+use Prim.Native.Nat.{ℕ}
 use mathlib.Core.Path.{_≡_, refl, sym, _∙_}
+use mathlib.Core.Bool.{Bool, true, false}
+use mathlib.Core.List.{List}
 use borrow.Author.Tests.{eq-eqb, ne-eqb}
 use lib.ListN.{length, take}
 use lib.Seq.{length-take-le}
+use lib.Dec.{eqb}
+use Rattle.wire_encoding.specs.Choice.{pick}
+use Rattle.path_error.specs.declared.Answer.the-variants.{Accepted, Refused}
+use Rattle.path_error.specs.declared.PathError.the-variants.{InadequateBufferSize}
+use Rattle.path.specs.declared.standard.StandardPath.{StandardPath}
 use Rattle.path.specs.Dataplane as spec
-use Rattle.wire_encoding.proofs.Writes.{placed-whole}
 use Rattle.path.proofs.Reading.{length-inside}
 use borrow.Author.Needs.{needs}
 use Rattle.path.proofs.dataplane.DataplanePath.copy_to_slice.Statement.{statement}
@@ -16,49 +23,58 @@ decode-requires c κs = search needs
 enum-told : tie.Need-enum-told
 enum-told c = search needs
 
+accepted-requires : tie.Need-accepted-requires
+accepted-requires c κs = search needs
+
 returns : tie.Need-returns
 unfolding spec.copyAnswer spec.answered spec.copied spec.copiedBy spec.destinationIn spec.destination
-returns c = rw (← c .before .before .before .before .before .decode .ensures, c .before .before .enum-told .given .1, eq-eqb _ _ (c .if1 .taken)) (rw (eq-eqb _ _ (c .if1 .taken)) (refl, refl))
+returns c =
+    rw (← c .before .before .before .before .before .decode .ensures, c .before .before .before .enum-told .given .1, eq-eqb _ _ (c .before .if1 .taken))
+    (rw (eq-eqb _ _ (c .before .if1 .taken)) (c .accepted .ensures, refl))
 
-slice-aggregate-put-slice : tie.Need-slice-aggregate-put-slice
-slice-aggregate-put-slice c =
-    let a = c .before .before .before .before .before .before .before .before .before .before .before .args in
-    sym (length-take-le _ _ (rw (← c .before .before .before .before .before .before .before .before .decode .ensures) at (length-inside (a .bytes .now) (a .self .«path_type»))))
+slice-aggregate-copy-whole : tie.Need-slice-aggregate-copy-whole
+slice-aggregate-copy-whole c =
+    let a = c .before .before .before .before .before .before .before .before .args in
+    sym (length-take-le _ _ (rw (← c .before .before .before .before .before .decode .ensures) at (length-inside (a .bytes .now) (a .self .«path_type»))))
 
-put-slice-requires : tie.Need-put-slice-requires
-put-slice-requires c κs = search needs
+-- a path that isn't empty: its bytes where the size is right
+by-size : (fits : Bool) (type : ℕ) (path : StandardPath) (run dst : List ℕ) → eqb type 0 ≡ false
+    → let size = pick fits Accepted (Refused InadequateBufferSize) in
+    (pick fits (record { answer = Accepted; path = path }) (spec.answerRefused InadequateBufferSize) ≡ spec.answered size path)
+    × (pick fits run dst ≡ spec.copiedBy type size run dst)
+unfolding spec.answered spec.copiedBy
+by-size true type path run dst other = (refl, rw (other))
+by-size false type path run dst other = (refl, refl)
+
+copy-whole-requires : tie.Need-copy-whole-requires
+copy-whole-requires c κs = search needs
+
+enum-known-answer : tie.Need-enum-known-answer
+enum-known-answer c = search needs
+
+not-read-requires : tie.Need-not-read-requires
+not-read-requires c κs = search needs
 
 same-length : tie.Need-same-length
 same-length c = search needs
 
 returns-2 : tie.Need-returns-2
-unfolding spec.copyAnswer spec.answered spec.copied spec.copiedBy spec.destinationIn spec.destination
+unfolding spec.copyAnswer spec.copied spec.destinationIn spec.destination
 returns-2 c =
-    let a = c .before .before .before .before .before .before .before .before .before .before .before .before .before .before .args in
-    let read = c .before .before .before .before .before .before .before .before .before .before .before .decode in
-    let run = take (read .result .length) (a .bytes .now) in
-    let size : length run ≡ length (a .dst .now) =
-    length-take-le _ _ (rw (← read .ensures) at (length-inside (a .bytes .now) (a .self .«path_type»))) ∙ sym (c .before .before .before .before .before .if2 .taken) in
-    rw (← read .ensures, c .before .before .before .before .before .before .before .before .enum-told .given .1, ne-eqb _ _ (c .before .before .before .before .before .before .if1 .left), eq-eqb _ _ (c .before .before .before .before .before .if2 .taken))
-    (rw (ne-eqb _ _ (c .before .before .before .before .before .before .if1 .left))
-    (refl, c .before .before .put-slice .ensures .1 ∙ placed-whole run _ size))
-
-refused-requires : tie.Need-refused-requires
-refused-requires c κs = search needs
-
-enum-known-answer : tie.Need-enum-known-answer
-enum-known-answer c = search needs
-
-refused-requires-2 : tie.Need-refused-requires-2
-refused-requires-2 c κs = search needs
+    let a = c .before .before .before .before .before .before .before .before .before .before .before .before .args in
+    let read = c .before .before .before .before .before .before .before .before .before .decode in
+    let n = read .result .length in
+    let run = take n (a .bytes .now) in
+    let whole : length run ≡ n = length-take-le _ _ (rw (← read .ensures) at (length-inside (a .bytes .now) (a .self .«path_type»))) in
+    let other = ne-eqb _ _ (c .before .before .before .before .before .if1 .left) in
+    let copied = rw (whole) at (c .before .before .copy-whole .ensures) in
+    let wanted = by-size (eqb (length (a .dst .now)) n) _ (read .result .path) run (a .dst .now) other in
+    rw (← read .ensures, c .before .before .before .before .before .before .before .enum-told .given .1, other)
+    (copied .0 ∙ wanted .0, copied .1 ∙ wanted .1)
 
 returns-3 : tie.Need-returns-3
 unfolding spec.copyAnswer spec.answered spec.copied spec.copiedBy spec.destinationIn spec.destination
-returns-3 c = rw (← c .before .before .before .before .before .before .before .decode .ensures, c .before .before .before .before .enum-told .given .1, ne-eqb _ _ (c .before .before .if1 .left), ne-eqb _ _ (c .before .if2 .left)) (c .refused .ensures, refl)
-
-returns-4 : tie.Need-returns-4
-unfolding spec.copyAnswer spec.answered spec.copied spec.copiedBy spec.destinationIn spec.destination
-returns-4 c = rw (← c .before .before .before .before .before .decode .ensures, c .before .before .answer .given .1) (c .refused2 .ensures, refl)
+returns-3 c = rw (← c .before .before .before .before .decode .ensures, c .before .before .answer .given .1) (c .not-read .ensures, refl)
 
 pub copy-to-slice-spec : {M : Type 1} → statement M
 copy-to-slice-spec =
@@ -66,13 +82,12 @@ copy-to-slice-spec =
     (tie.spec
     decode-requires
     enum-told
+    accepted-requires
     returns
-    slice-aggregate-put-slice
-    put-slice-requires
+    slice-aggregate-copy-whole
+    copy-whole-requires
+    enum-known-answer
+    not-read-requires
     same-length
     returns-2
-    refused-requires
-    enum-known-answer
-    refused-requires-2
-    returns-3
-    returns-4)
+    returns-3)

@@ -15,29 +15,19 @@ returns c = rw (eq-eqb _ _ (c .before .if1 .taken)) (c .unread .ensures)
 decode-requires : tie.Need-decode-requires
 decode-requires c κs = search needs
 
-enum-told : tie.Need-enum-told
-enum-told c = search needs
-
-encoded-path-length-requires : tie.Need-encoded-path-length-requires
-encoded-path-length-requires c κs = search needs
-
-enum-known-answer : tie.Need-enum-known-answer
-enum-known-answer c = search needs
+standard-requires : tie.Need-standard-requires
+standard-requires c κs = search needs
 
 returns-2 : tie.Need-returns-2
-unfolding spec.readDataplane spec.standardRead
-returns-2 c = rw (ne-eqb _ _ (c .before .before .before .before .before .before .before .if1 .left), eq-eqb _ _ (c .before .before .before .before .before .if2 .taken), ← c .before .before .before .before .decode .ensures, c .before .enum-told .given .1, c .encoded-path-length .ensures .0)
-
-returns-3 : tie.Need-returns-3
-unfolding spec.readDataplane spec.standardRead
-returns-3 c = rw (ne-eqb _ _ (c .before .before .before .before .before .before .before .if1 .left), eq-eqb _ _ (c .before .before .before .before .before .if2 .taken), ← c .before .before .before .before .decode .ensures, c .before .answer .given .1)
+unfolding spec.readDataplane
+returns-2 c = rw (ne-eqb _ _ (c .before .before .before .before .if1 .left), eq-eqb _ _ (c .before .before .if2 .taken), ← c .before .decode .ensures) (c .standard .ensures)
 
 unread-requires-2 : tie.Need-unread-requires-2
 unread-requires-2 c κs = search needs
 
-returns-4 : tie.Need-returns-4
+returns-3 : tie.Need-returns-3
 unfolding spec.readDataplane
-returns-4 c = rw (ne-eqb _ _ (c .before .before .before .if1 .left), ne-eqb _ _ (c .before .if2 .left)) (c .unread2 .ensures)
+returns-3 c = rw (ne-eqb _ _ (c .before .before .before .if1 .left), ne-eqb _ _ (c .before .if2 .left)) (c .unread2 .ensures)
 
 pub decode-spec : {M : Type 1} → statement M
 decode-spec =
@@ -46,10 +36,7 @@ decode-spec =
     unread-requires
     returns
     decode-requires
-    enum-told
-    encoded-path-length-requires
-    enum-known-answer
+    standard-requires
     returns-2
-    returns-3
     unread-requires-2
-    returns-4)
+    returns-3)

@@ -24,11 +24,11 @@ refused-requires c κs = search needs
 
 returns : tie.Need-returns
 unfolding spec.infoFieldIn spec.onStandard spec.carriedOut
-returns c = rw (← c .before .before .before .before .before .standard .ensures, c .before .before .enum-told .given .1, ← c .before .info-field-offset .ensures) (c .at .ensures)
+returns c = rw (← c .before .before .before .before .standard .ensures, c .before .before .enum-told .given .1, ← c .before .info-field-offset .ensures) (c .at .ensures)
 
 returns-2 : tie.Need-returns-2
 unfolding spec.infoFieldIn spec.onStandard spec.carriedOut
-returns-2 c = rw (← c .before .before .before .before .before .standard .ensures, c .before .before .answer .given .1) (c .refused .ensures)
+returns-2 c = rw (← c .before .before .before .before .standard .ensures, c .before .before .answer .given .1) (c .refused .ensures)
 
 pub locate-info-field-spec : {M : Type 1} → statement M
 locate-info-field-spec =

@@ -21,11 +21,11 @@ refused-requires c κs = search needs
 
 returns : tie.Need-returns
 unfolding spec.segmentIn spec.onStandard spec.carriedOut
-returns c = rw (← c .before .before .before .before .standard .ensures, c .before .enum-told .given .1) (c .of .ensures)
+returns c = rw (← c .before .before .before .standard .ensures, c .before .enum-told .given .1) (c .of .ensures)
 
 returns-2 : tie.Need-returns-2
 unfolding spec.segmentIn spec.onStandard spec.carriedOut
-returns-2 c = rw (← c .before .before .before .before .before .standard .ensures, c .before .before .answer .given .1) (c .refused .ensures)
+returns-2 c = rw (← c .before .before .before .before .standard .ensures, c .before .before .answer .given .1) (c .refused .ensures)
 
 pub segment-spec : {M : Type 1} → statement M
 segment-spec =

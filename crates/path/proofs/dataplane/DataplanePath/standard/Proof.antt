@@ -11,9 +11,12 @@ decode-requires c κs = search needs
 enum-told : tie.Need-enum-told
 enum-told c = search needs
 
+accepted-requires : tie.Need-accepted-requires
+accepted-requires c κs = search needs
+
 returns : tie.Need-returns
 unfolding spec.standardOf spec.standardAnswer
-returns c = rw (← c .before .before .before .before .before .decode .ensures, c .before .before .enum-told .given .1, eq-eqb _ _ (c .if1 .taken))
+returns c = rw (← c .before .before .before .before .before .decode .ensures, c .before .before .before .enum-told .given .1, eq-eqb _ _ (c .before .if1 .taken)) (c .accepted .ensures)
 
 refused-requires : tie.Need-refused-requires
 refused-requires c κs = search needs
@@ -21,16 +24,16 @@ refused-requires c κs = search needs
 enum-known-answer : tie.Need-enum-known-answer
 enum-known-answer c = search needs
 
-refused-requires-2 : tie.Need-refused-requires-2
-refused-requires-2 c κs = search needs
+not-read-requires : tie.Need-not-read-requires
+not-read-requires c κs = search needs
 
 returns-2 : tie.Need-returns-2
 unfolding spec.standardOf spec.standardAnswer
-returns-2 c = rw (← c .before .before .before .before .before .before .decode .ensures, c .before .before .before .enum-told .given .1, ne-eqb _ _ (c .before .if1 .left)) (c .refused .ensures)
+returns-2 c = rw (← c .before .before .before .before .before .decode .ensures, c .before .before .before .enum-told .given .1, ne-eqb _ _ (c .before .if1 .left)) (c .refused .ensures)
 
 returns-3 : tie.Need-returns-3
 unfolding spec.standardOf spec.standardAnswer
-returns-3 c = rw (← c .before .before .before .before .before .decode .ensures, c .before .before .answer .given .1) (c .refused2 .ensures)
+returns-3 c = rw (← c .before .before .before .before .decode .ensures, c .before .before .answer .given .1) (c .not-read .ensures)
 
 pub standard-spec : {M : Type 1} → statement M
 standard-spec =
@@ -38,9 +41,10 @@ standard-spec =
     (tie.spec
     decode-requires
     enum-told
+    accepted-requires
     returns
     refused-requires
     enum-known-answer
-    refused-requires-2
+    not-read-requires
     returns-2
     returns-3)

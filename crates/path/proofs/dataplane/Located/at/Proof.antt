@@ -13,13 +13,16 @@ enum-told c = search needs
 refused-requires : tie.Need-refused-requires
 refused-requires c κs = search needs
 
+accepted-requires : tie.Need-accepted-requires
+accepted-requires c κs = search needs
+
 returns : tie.Need-returns
 unfolding spec.locatedAt
-returns c = rw (c .before .offset .given .1)
+returns c = rw (c .before .before .offset .given .1) (c .accepted .ensures)
 
 returns-2 : tie.Need-returns-2
 unfolding spec.locatedAt
 returns-2 c = rw (c .before .enum-told .given .1) (c .refused .ensures)
 
 pub at-spec : {M : Type 1} → statement M
-at-spec = tie.close (tie.spec enum-known-offset enum-told refused-requires returns returns-2)
+at-spec = tie.close (tie.spec enum-known-offset accepted-requires enum-told refused-requires returns returns-2)

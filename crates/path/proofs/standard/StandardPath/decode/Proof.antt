@@ -3,7 +3,7 @@ use Prim.Native.Nat.{_≤_, _<_}
 use native.Mathlib.Omega.{arith}
 use borrow.Author.Tests.{le-leb, lt-leb}
 use lib.ListN.{length}
-use Rattle.path_header.specs.MetaHeader.{pathLength}
+use Rattle.path_meta_header.specs.MetaHeader.{pathLength}
 use Rattle.path.specs.Standard as spec
 use borrow.Author.Needs.{needs}
 use Rattle.path.proofs.standard.StandardPath.decode.Statement.{statement}
@@ -18,12 +18,15 @@ enum-told c = search needs
 encoded-path-length-requires : tie.Need-encoded-path-length-requires
 encoded-path-length-requires c κs = search needs
 
+accepted-requires : tie.Need-accepted-requires
+accepted-requires c κs = search needs
+
 returns : tie.Need-returns
 unfolding spec.readPath spec.complete
 returns c =
     let m = c .before .before .before .before .before .decode .result .«meta_header» in
     let h : pathLength m ≤ length (c .before .before .before .before .before .before .before .args .bytes .now) = omega arith in
-    rw (← c .before .before .before .before .before .decode .ensures, c .before .before .enum-told .given .1, le-leb _ _ h)
+    rw (← c .before .before .before .before .before .decode .ensures, c .before .before .before .enum-told .given .1, le-leb _ _ h) (c .accepted .ensures)
 
 refused-requires : tie.Need-refused-requires
 refused-requires c κs = search needs
@@ -37,13 +40,13 @@ refused-requires-2 c κs = search needs
 returns-2 : tie.Need-returns-2
 unfolding spec.readPath spec.complete
 returns-2 c =
-    let m = c .before .before .before .before .before .before .decode .result .«meta_header» in
-    let h : length (c .before .before .before .before .before .before .before .before .args .bytes .now) < pathLength m = omega arith in
-    rw (← c .before .before .before .before .before .before .decode .ensures, c .before .before .before .enum-told .given .1, lt-leb _ _ h) (c .refused .ensures)
+    let m = c .before .before .before .before .before .decode .result .«meta_header» in
+    let h : length (c .before .before .before .before .before .before .before .args .bytes .now) < pathLength m = omega arith in
+    rw (← c .before .before .before .before .before .decode .ensures, c .before .before .before .enum-told .given .1, lt-leb _ _ h) (c .refused .ensures)
 
 returns-3 : tie.Need-returns-3
 unfolding spec.readPath spec.complete
-returns-3 c = rw (← c .before .before .before .before .before .decode .ensures, c .before .before .answer .given .1) (c .refused2 .ensures)
+returns-3 c = rw (← c .before .before .before .before .decode .ensures, c .before .before .answer .given .1) (c .refused2 .ensures)
 
 pub decode-spec : {M : Type 1} → statement M
 decode-spec =
@@ -52,6 +55,7 @@ decode-spec =
     decode-requires
     enum-told
     encoded-path-length-requires
+    accepted-requires
     returns
     refused-requires
     enum-known-answer

@@ -1,0 +1,12 @@
+-- `AddressHeader::new` meets its contract: each field is taken over.
+use mathlib.Core.Path.{refl}
+use Rattle.address_header.specs.AddressHeader.{headerOf}
+use Rattle.address_header.proofs.AddressHeader.new.Statement.{statement}
+use Rattle.address_header.proofs.AddressHeader.new.Tie as tie
+
+returns : tie.Need-returns
+unfolding headerOf
+returns c = refl
+
+pub new-spec : {M : Type 1} → statement M
+new-spec = tie.close (tie.spec returns)

@@ -1,0 +1,83 @@
+-- `WireHost::put` meets its contract: a host is whole words, so the loop ends where the host does.
+use mathlib.Core.Path.{_≡_, refl, ap, _∙_}
+use Prim.Native.Nat.{ℕ, _-_}
+use native.Mathlib.Omega.{arith}
+use lib.ListN.{length, take}
+use lib.Seq.{sets}
+use Rattle.common_header.specs.CommonHeader.{hostLength}
+use Rattle.address_header.specs.Encoding.{wireHostBytes}
+use Rattle.address_header.proofs.EncodingLaws.{Written, host-words, word-inside, length-written, word-written}
+use borrow.Author.Needs.{needs}
+use Rattle.address_header.proofs.WireHost.put.Statement.{statement}
+use Rattle.address_header.proofs.WireHost.put.Tie as tie
+
+abbrev Inv-loop : tie.InvT-loop
+Inv-loop dst₀ at len bytes done₀ dst done = Written bytes dst₀ at len dst done
+
+abbrev μ-loop : tie.MeasureT-loop
+μ-loop dst₀ at len bytes done₀ dst done = len - done
+
+encoded-length-requires : tie.Need-encoded-length-requires Inv-loop μ-loop
+encoded-length-requires c κs = search needs
+
+loop-holds : tie.Need-loop-holds Inv-loop μ-loop
+loop-holds c = record {
+  so-far = refl;
+  words = rw (c .before .encoded-length .ensures .0) (host-words (c .before .before .before .args .self .kind));
+  at-word = refl;
+  passed = omega arith;
+}
+
+slice-aggregate-copy-word : tie.Need-slice-aggregate-copy-word Inv-loop μ-loop
+slice-aggregate-copy-word c = search needs
+
+add-copy-word : tie.Need-add-copy-word Inv-loop μ-loop
+add-copy-word c = omega (arith, c .before .before .before .before .before .encoded-length .ensures .0)
+
+copy-word-requires : tie.Need-copy-word-requires Inv-loop μ-loop
+copy-word-requires c κs =
+    let s = c .before .before in
+    let more = word-inside (s .before .loop .inv) (s .loop-test .taken) in
+    let kept = length-written (s .before .loop .inv) in
+    let sixteen : length (s .before .before .before .before .before .args .self .bytes) ≡ 16 = search needs in
+    let long = s .before .before .before .encoded-length .ensures in
+    (omega arith, omega arith)
+
+add-done : tie.Need-add-done Inv-loop μ-loop
+add-done c = omega (arith, c .before .before .before .before .before .before .before .before .encoded-length .ensures .1)
+
+loop-less : tie.Need-loop-less Inv-loop μ-loop
+loop-less c = omega arith
+
+loop-again : tie.Need-loop-again Inv-loop μ-loop
+loop-again c =
+    let s = c .before .before .before .before .before in
+    let sixteen : length (s .before .before .before .before .before .args .self .bytes) ≡ 16 = search needs in
+    word-written (s .before .loop .inv) (s .loop-test .taken) (omega (arith, s .before .before .before .encoded-length .ensures .1)) (c .before .before .copy-word .ensures)
+
+same-length : tie.Need-same-length Inv-loop μ-loop
+same-length c = length-written (c .before .loop .inv)
+
+returns : tie.Need-returns Inv-loop μ-loop
+unfolding wireHostBytes
+returns c =
+    let start = c .before .before .before .before .before in
+    let all : c .before .loop .done ≡ hostLength (start .args .self .kind) = omega (arith, c .loop-test .left, c .before .before .before .encoded-length .ensures .0) in
+    c .before .loop .inv .so-far ∙ ap (λ (n : ℕ). sets (start .args .dst .now) (start .args .at) (take n (start .args .self .bytes))) all
+
+pub put-spec : {M : Type 1} → statement M
+put-spec =
+    tie.close
+    (tie.spec
+    Inv-loop
+    μ-loop
+    encoded-length-requires
+    loop-holds
+    slice-aggregate-copy-word
+    add-copy-word
+    copy-word-requires
+    add-done
+    loop-less
+    loop-again
+    same-length
+    returns)

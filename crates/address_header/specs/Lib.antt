@@ -1,0 +1,2 @@
+pub mod AddressHeader
+pub mod Encoding

@@ -1,0 +1,2 @@
+pub mod CommonHeader
+pub mod Encoding

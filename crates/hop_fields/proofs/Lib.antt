@@ -1,0 +1,7 @@
+pub mod EitherEnd
+pub mod Examples
+pub mod Held
+pub mod Lent
+pub mod Parts
+pub mod PathRuns
+pub mod Taken

@@ -1,0 +1,33 @@
+-- Parts at the ends of a run, and where the run of a path lies.
+-- Assumes nothing.
+use Prim.Native.Nat.{ℕ, _+_, _-_, _≤_, _<_}
+use mathlib.Core.Path.{_≡_, sym, ap, subst}
+use mathlib.Core.List.{List, []}
+use native.Mathlib.Nat.{le-refl}
+use native.Mathlib.Omega.{arith}
+use lib.ListN.{length, take, drop, length-drop, drop-of-length-le}
+use lib.Seq.{take-all}
+use Rattle.path_meta_header.specs.MetaHeader.{pathLength}
+use Rattle.path.specs.declared.standard.Part.{Part}
+use Rattle.path.proofs.Reading.{carried}
+use Rattle.hop_fields.specs.Run.{afterFirst, beforeLast, located}
+
+-- a part that goes to the end of the list is what is left after dropping
+pub to-the-end : (n : ℕ) (run : List ℕ) → take (length run - n) (drop n run) ≡ drop n run
+to-the-end n run = take-all (length run - n) (drop n run) (subst (λ (k : ℕ). k ≤ length run - n) (sym (length-drop n run)) (le-refl _))
+
+-- a run of less than a hop field leaves nothing
+pub nothing-after : (run : List ℕ) → length run < 12 → [] ≡ afterFirst run
+nothing-after run short = sym (drop-of-length-le run {i = 12} (omega arith))
+
+pub nothing-before : (run : List ℕ) → length run < 12 → [] ≡ beforeLast run
+nothing-before run short =
+    let none : 0 ≡ length run - 12 = omega arith in
+    ap (λ (n : ℕ). take n run) none
+
+-- the hop fields of a path lie among its bytes
+pub located-inside : (type : ℕ) (bytes : List ℕ) → located type bytes .start + located type bytes .len ≤ length bytes
+unfolding located pathLength
+located-inside type bytes =
+    carried bytes (λ (part : Part). part .start + part .len ≤ length bytes) type _ _ (λ error. omega arith)
+    (λ path readable. omega (arith, readable .whole))

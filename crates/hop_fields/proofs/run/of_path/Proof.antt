@@ -1,0 +1,30 @@
+-- `of_path` meets its contract: the part lies among the bytes.
+use native.Mathlib.Omega.{arith}
+use native.Mathlib.Nat.{add-sub-cancel-left}
+use Rattle.hop_fields.proofs.Parts.{located-inside}
+use borrow.Author.Needs.{needs}
+use Rattle.hop_fields.proofs.run.of_path.Statement.{statement}
+use Rattle.hop_fields.proofs.run.of_path.Tie as tie
+
+locate-requires : tie.Need-locate-requires
+locate-requires c κs = search needs
+
+add-end : tie.Need-add-end
+add-end c = let a = c .before .before .before .args in omega (arith, rw (← c .before .locate .ensures) at (located-inside (a .path .«path_type») (a .bytes .now)))
+
+sub-result : tie.Need-sub-result
+sub-result c = search needs
+
+part-result-start : tie.Need-part-result-start
+part-result-start c = search needs
+
+part-result-end : tie.Need-part-result-end
+part-result-end c = let a = c .before .before .before .args in omega (arith, rw (← c .before .locate .ensures) at (located-inside (a .path .«path_type») (a .bytes .now)))
+
+returns : tie.Need-returns
+returns c = rw (add-sub-cancel-left, c .before .before .locate .ensures)
+
+pub of-path-spec : {M : Type 1} → statement M
+of-path-spec =
+    tie.close
+    (tie.spec locate-requires add-end sub-result part-result-start part-result-end returns)

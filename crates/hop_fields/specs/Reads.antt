@@ -1,0 +1,91 @@
+-- Reads of a run at either end, in any order, and what document 01 asks of them.
+use Prim.Native.Nat.{ℕ, _+_, _*_, _-_, _≤_, _<_, _%_}
+use mathlib.Core.Path.{_≡_}
+use mathlib.Core.List.{List, [], _∷_, _++_}
+use lib.ListN.{length}
+use Rattle.wire_encoding.specs.BigEndian.{part}
+use Rattle.path_meta_header.specs.MetaHeader.{hopFieldsCount, firstHopField, segmentLengthOf}
+use Rattle.path_error.specs.declared.Answer.the-variants.{Accepted}
+use Rattle.path.specs.Dataplane.{standardOf, segmentIn, hopFieldIn, partIn}
+use Rattle.hop_fields.specs.Run.{count, first, afterFirst, last, beforeLast, hopField, hopFields, located}
+
+-- where a read is made: `next` at the front, `next_back` at the back
+pub data End : Type 0 where
+  front : End
+  back : End
+
+-- what one read gives, and what it leaves
+unfoldable pub given : End → List ℕ → List ℕ
+given front run = first run
+given back run = last run
+
+unfoldable pub left : End → List ℕ → List ℕ
+left front run = afterFirst run
+left back run = beforeLast run
+
+-- what a list of reads leaves
+unfoldable pub leftBy : List End → List ℕ → List ℕ
+leftBy [] run = run
+leftBy (end ∷ reads) run = leftBy reads (left end run)
+
+-- how many of a list of reads are made at an end
+unfoldable pub isAt : End → End → ℕ
+isAt front front = 1
+isAt front back = 0
+isAt back front = 0
+isAt back back = 1
+
+unfoldable pub madeAt : End → List End → ℕ
+madeAt end [] = 0
+madeAt end (e ∷ reads) = isAt end e + madeAt end reads
+
+-- what a list of reads gives at the front, in the order of reading
+unfoldable pub fromFront : List End → List ℕ → List (List ℕ)
+fromFront [] run = []
+fromFront (front ∷ reads) run = first run ∷ fromFront reads (afterFirst run)
+fromFront (back ∷ reads) run = fromFront reads (beforeLast run)
+
+-- and at the back, the last read first
+unfoldable pub fromBack : List End → List ℕ → List (List ℕ)
+fromBack [] run = []
+fromBack (front ∷ reads) run = fromBack reads (afterFirst run)
+fromBack (back ∷ reads) run = fromBack reads (beforeLast run) ++ (last run ∷ [])
+
+-- THE CLAIM, of a run and of reads in any order that are no more than it has hop fields
+
+pub record Read (run : List ℕ) (reads : List End) : Type 0 where
+  -- what is left lies between the hop fields read at the front and those read at the back
+  pub between : leftBy reads run ≡ part (madeAt front reads * 12) ((count run - length reads) * 12) run
+  -- "tells how many remain"
+  pub remain : count (leftBy reads run) ≡ count run - length reads
+  -- each hop field is given once or left: those of the front in order, those of the back in reverse
+  pub each : fromFront reads run ++ (hopFields (leftBy reads run) ++ fromBack reads run) ≡ hopFields run
+  -- a further read gives the first of those that remain, or the last
+  pub next : length reads < count run → first (leftBy reads run) ≡ hopField run (madeAt front reads)
+  pub next-back : length reads < count run → last (leftBy reads run) ≡ hopField run (count run - 1 - madeAt back reads)
+  -- once none remains, nothing is given at either end, again and again
+  pub nothing : length reads ≡ count run → (more : List End) → (end : End) → given end (leftBy more (leftBy reads run)) ≡ []
+
+unfoldable pub FromEitherEnd : Type 0
+FromEitherEnd = (run : List ℕ) → length run % 12 ≡ 0 → (reads : List End) → length reads ≤ count run → Read run reads
+
+-- THE RUNS OF A PATH: hop field j of a segment's run, and of the whole path's, is the path's own at its place
+
+pub record SegmentRun (type : ℕ) (bytes : List ℕ) (k : ℕ) : Type 0 where
+  pub count : count (partIn bytes (segmentIn type bytes k .«hop_fields»)) ≡ segmentLengthOf (segmentIn type bytes k .path .«meta_header») k
+  pub hop-field :
+      (j : ℕ) → j < segmentLengthOf (segmentIn type bytes k .path .«meta_header») k →
+      hopField (partIn bytes (segmentIn type bytes k .«hop_fields»)) j
+      ≡ partIn bytes (hopFieldIn type bytes (firstHopField (segmentIn type bytes k .path .«meta_header») k + j) .part)
+
+unfoldable pub SegmentRuns : Type 0
+SegmentRuns = (type : ℕ) (bytes : List ℕ) (k : ℕ) → segmentIn type bytes k .answer ≡ Accepted → SegmentRun type bytes k
+
+pub record PathRun (type : ℕ) (bytes : List ℕ) : Type 0 where
+  pub count : count (partIn bytes (located type bytes)) ≡ hopFieldsCount (standardOf type bytes .path .«meta_header»)
+  pub hop-field :
+      (j : ℕ) → j < hopFieldsCount (standardOf type bytes .path .«meta_header») →
+      hopField (partIn bytes (located type bytes)) j ≡ partIn bytes (hopFieldIn type bytes j .part)
+
+unfoldable pub PathRuns : Type 0
+PathRuns = (type : ℕ) (bytes : List ℕ) → standardOf type bytes .answer ≡ Accepted → PathRun type bytes

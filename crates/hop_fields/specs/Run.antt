@@ -1,0 +1,68 @@
+-- A run of hop fields, 12 bytes each: what a read at either end gives and what it leaves.
+use Prim.Native.Nat.{ℕ, zero, suc, _*_, _-_, _/_, _%_}
+use mathlib.Core.List.{List, [], _∷_}
+use lib.ListN.{length, take, drop}
+use lib.Dec.{ltb, eqb}
+use Rattle.wire_encoding.specs.Choice.{pick}
+use Rattle.wire_encoding.specs.BigEndian.{part}
+use Rattle.path_meta_header.specs.MetaHeader.{hopFieldsCount}
+use Rattle.path_fields.specs.Fields.{newHopField}
+use Rattle.path_error.specs.declared.Answer.{Answer}
+use Rattle.path_error.specs.declared.Answer.the-variants.{Accepted, Refused}
+use Rattle.path_error.specs.declared.PathError.the-variants.{InadequateBufferSize}
+use Rattle.path.specs.Segment.{hopStart}
+use Rattle.path.specs.Dataplane.{onStandard}
+use Rattle.path.specs.declared.standard.Part.{Part}
+use Rattle.hop_fields.specs.declared.view.Ends.{Ends}
+
+-- whether bytes are a run: 9 where their number is no multiple of 12
+unfoldable pub answer : List ℕ → Answer
+answer bytes = pick (eqb (length bytes % 12) 0) Accepted (Refused InadequateBufferSize)
+
+-- the run; nothing where the bytes are refused
+unfoldable pub whole : List ℕ → List ℕ
+whole bytes = pick (eqb (length bytes % 12) 0) bytes []
+
+-- how many hop fields a run has
+abbrev pub count : List ℕ → ℕ
+count run = length run / 12
+
+-- a read at the front: the hop field, nothing where none is left; and what is left
+unfoldable pub first : List ℕ → List ℕ
+first run = pick (ltb (length run) 12) [] (take 12 run)
+
+abbrev pub afterFirst : List ℕ → List ℕ
+afterFirst run = drop 12 run
+
+-- a read at the back
+unfoldable pub last : List ℕ → List ℕ
+last run = pick (ltb (length run) 12) [] (drop (length run - 12) run)
+
+abbrev pub beforeLast : List ℕ → List ℕ
+beforeLast run = take (length run - 12) run
+
+-- hop field j of a run, and the first n of them
+abbrev pub hopField : List ℕ → ℕ → List ℕ
+hopField run j = part (j * 12) 12 run
+
+unfoldable pub firstHopFields : ℕ → List ℕ → List (List ℕ)
+firstHopFields zero run = []
+firstHopFields (suc n) run = take 12 run ∷ firstHopFields n (drop 12 run)
+
+-- all hop fields of a run, in order
+abbrev pub hopFields : List ℕ → List (List ℕ)
+hopFields run = firstHopFields (count run) run
+
+-- a read at the front, a read at the back, and the count that they leave
+unfoldable pub endsOf : List ℕ → List ℕ → ℕ → Ends
+endsOf front back n = record { first = newHopField front .field; last = newHopField back .field; between = n }
+
+unfoldable pub ends : List ℕ → Ends
+ends run = endsOf (first run) (last (afterFirst run)) (count (beforeLast (afterFirst run)))
+
+-- where all hop fields of a standard path lie; nowhere for a path that is refused or of another type
+unfoldable pub located : ℕ → List ℕ → Part
+located type bytes =
+    onStandard type bytes (λ error. record { start = 0; len = 0 })
+    (λ path.
+    record { start = hopStart (path .«meta_header») 0; len = hopFieldsCount (path .«meta_header») * 12 })

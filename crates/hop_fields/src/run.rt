@@ -1,0 +1,104 @@
+// A run of hop fields as bytes: the hop field at either end, what is left without it, how many there are.
+use path::dataplane::DataplanePath;
+use path::standard::Part;
+use path_error::Answer;
+use path_error::PathError;
+use path_fields::HopField;
+use path_fields::InfoField;
+use path_meta_header::PathMetaHeader;
+ghost use mathlib.Core.Path.{_≡_};
+ghost use Rattle.path.specs.Dataplane.{partIn};
+ghost use Rattle.hop_fields.specs.Run as spec;
+
+// Whether bytes are a run of hop fields: their number has to be a multiple of 12.
+pub fn check(bytes: &[u8]) -> Answer
+    ensures { λ r. ⌜ r ≡ spec.answer (now (bytes .entry)) ⌝ }
+{
+    if bytes.len() % HopField::LENGTH == 0 {
+        return Answer::Accepted;
+    }
+    Answer::Refused(PathError::InadequateBufferSize)
+}
+
+// The run that the bytes are; empty where they are refused.
+pub fn whole<'a>(bytes: &'a [u8]) -> &'a [u8]
+    ensures { λ r. ⌜ now r ≡ spec.whole (now (bytes .entry)) ⌝ }
+{
+    if bytes.len() % HopField::LENGTH == 0 {
+        return bytes;
+    }
+    &bytes[..0]
+}
+
+// How many hop fields a run has.
+pub fn count(run: &[u8]) -> usize
+    ensures { λ r. ⌜ r ≡ spec.count (now (run .entry)) ⌝ }
+{
+    run.len() / HopField::LENGTH
+}
+
+// The hop field at the front; empty where none is left.
+pub fn first<'a>(run: &'a [u8]) -> &'a [u8]
+    ensures { λ r. ⌜ now r ≡ spec.first (now (run .entry)) ⌝ }
+{
+    if run.len() < HopField::LENGTH {
+        return &run[..0];
+    }
+    &run[..HopField::LENGTH]
+}
+
+// The run without the hop field at its front.
+pub fn after_first<'a>(run: &'a [u8]) -> &'a [u8]
+    ensures { λ r. ⌜ now r ≡ spec.afterFirst (now (run .entry)) ⌝ }
+{
+    if run.len() < HopField::LENGTH {
+        return &run[..0];
+    }
+    &run[HopField::LENGTH..]
+}
+
+// The hop field at the back; empty where none is left.
+pub fn last<'a>(run: &'a [u8]) -> &'a [u8]
+    ensures { λ r. ⌜ now r ≡ spec.last (now (run .entry)) ⌝ }
+{
+    if run.len() < HopField::LENGTH {
+        return &run[..0];
+    }
+    &run[run.len() - HopField::LENGTH..]
+}
+
+// The run without the hop field at its back.
+pub fn before_last<'a>(run: &'a [u8]) -> &'a [u8]
+    ensures { λ r. ⌜ now r ≡ spec.beforeLast (now (run .entry)) ⌝ }
+{
+    if run.len() < HopField::LENGTH {
+        return &run[..0];
+    }
+    &run[..run.len() - HopField::LENGTH]
+}
+
+// Where the hop fields of a standard path lie, all of them; the part 0, 0 where the path is refused.
+pub fn locate(path: DataplanePath, bytes: &[u8]) -> Part
+    ensures { λ r. ⌜ r ≡ spec.located (path .«path_type») (now (bytes .entry)) ⌝ }
+{
+    let read = path.standard(bytes);
+    let answer = read.answer;
+    let meta_header = read.path.meta_header;
+    match answer {
+        Answer::Accepted => Part {
+            start: PathMetaHeader::LENGTH + meta_header.info_fields_count() * InfoField::LENGTH,
+            len: meta_header.hop_fields_count() * HopField::LENGTH,
+        },
+        Answer::Refused(_) => Part { start: 0, len: 0 },
+    }
+}
+
+// The hop fields of a standard path, all of them, as a part of its bytes; empty where the path is refused.
+pub fn of_path(path: DataplanePath, bytes: &[u8]) -> &[u8]
+    ensures { λ r. ⌜ now r ≡ partIn (now (bytes .entry)) (spec.located (path .«path_type») (now (bytes .entry))) ⌝ }
+{
+    let part = locate(path, bytes);
+    let start = part.start;
+    let end = start + part.len;
+    &bytes[start..end]
+}

@@ -1,3 +1,0 @@
-pub mod CommonHeader
-pub mod AddressHeader
-pub mod Encoding

@@ -1,0 +1,66 @@
+-- The answers: document 01's number of each refusal, and the value that 2 and 3 carry; 0 for what is accepted.
+use Prim.Native.Nat.{ℕ}
+use Rattle.path_error.specs.declared.DataplanePathErrorKind.{DataplanePathErrorKind}
+use Rattle.path_error.specs.declared.DataplanePathErrorKind.the-variants as kind
+use Rattle.path_error.specs.declared.DecodeError.{DecodeError}
+use Rattle.path_error.specs.declared.DecodeError.the-variants as decode
+use Rattle.path_error.specs.declared.PathError.{PathError}
+use Rattle.path_error.specs.declared.PathError.the-variants as path
+use Rattle.path_error.specs.declared.Decoded.{Decoded}
+use Rattle.path_error.specs.declared.Decoded.the-variants as decoded
+use Rattle.path_error.specs.declared.Answer.{Answer}
+use Rattle.path_error.specs.declared.Answer.the-variants as answer
+
+abbrev pub kindNumber : DataplanePathErrorKind → ℕ
+kindNumber kind.InvalidSegmentLengths = 4
+kindNumber kind.InfoFieldOutOfRange = 5
+kindNumber kind.HopFieldOutOfRange = 6
+
+abbrev pub decodeNumber : DecodeError → ℕ
+decodeNumber decode.PacketEmptyOrTruncated = 1
+decodeNumber (decode.UnsupportedVersion version) = 2
+decodeNumber (decode.InvalidHeaderLength factor) = 3
+decodeNumber (decode.InvalidPath kind) = kindNumber kind
+decodeNumber decode.InconsistentPathLength = 7
+
+abbrev pub decodeValue : DecodeError → ℕ
+decodeValue decode.PacketEmptyOrTruncated = 0
+decodeValue (decode.UnsupportedVersion version) = version
+decodeValue (decode.InvalidHeaderLength factor) = factor
+decodeValue (decode.InvalidPath kind) = 0
+decodeValue decode.InconsistentPathLength = 0
+
+abbrev pub pathNumber : PathError → ℕ
+pathNumber (path.Decode error) = decodeNumber error
+pathNumber path.NoSuchField = 8
+pathNumber path.InadequateBufferSize = 9
+pathNumber path.NumberTooWide = 10
+pathNumber path.TooManyHopFields = 13
+pathNumber path.PeeringNotOnBoth = 14
+pathNumber path.AtLastHopField = 15
+
+abbrev pub pathValue : PathError → ℕ
+pathValue (path.Decode error) = decodeValue error
+pathValue path.NoSuchField = 0
+pathValue path.InadequateBufferSize = 0
+pathValue path.NumberTooWide = 0
+pathValue path.TooManyHopFields = 0
+pathValue path.PeeringNotOnBoth = 0
+pathValue path.AtLastHopField = 0
+
+abbrev pub decodedNumber : Decoded → ℕ
+decodedNumber decoded.Accepted = 0
+decodedNumber (decoded.Refused error) = decodeNumber error
+
+abbrev pub answerNumber : Answer → ℕ
+answerNumber answer.Accepted = 0
+answerNumber (answer.Refused error) = pathNumber error
+
+-- 2 and 3 come with their value; it is zero for every other answer
+abbrev pub decodedValue : Decoded → ℕ
+decodedValue decoded.Accepted = 0
+decodedValue (decoded.Refused error) = decodeValue error
+
+abbrev pub answerValue : Answer → ℕ
+answerValue answer.Accepted = 0
+answerValue (answer.Refused error) = pathValue error

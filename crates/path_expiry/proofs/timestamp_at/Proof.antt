@@ -1,0 +1,20 @@
+-- `timestamp_at` meets its contract: the info field is there, so the number is the one that its bytes spell.
+use mathlib.Core.Path.{_∙_}
+use Prim.Native.Nat.{_+_}
+use native.Mathlib.Omega.{arith}
+use Rattle.wire_encoding.proofs.Numbers.{or-zero-is}
+use borrow.Author.Needs.{needs}
+use Rattle.path_expiry.proofs.timestamp_at.Statement.{statement}
+use Rattle.path_expiry.proofs.timestamp_at.Tie as tie
+
+add-u32-or-zero : tie.Need-add-u32-or-zero
+add-u32-or-zero c = search needs
+
+u32-or-zero-requires : tie.Need-u32-or-zero-requires
+u32-or-zero-requires c κs = search needs
+
+returns : tie.Need-returns
+returns c = c .u32-or-zero .ensures ∙ or-zero-is 4 (c .before .before .args .bytes .now) (c .before .before .args .at + 4) (omega arith)
+
+pub timestamp-at-spec : {M : Type 1} → statement M
+timestamp-at-spec = tie.close (tie.spec add-u32-or-zero u32-or-zero-requires returns)

@@ -1,3 +1,0 @@
-pub mod Encoding
-pub mod FieldLaws
-pub mod MetaLaws

@@ -1,3 +1,0 @@
-pub mod Errors
-pub mod MetaHeader
-pub mod Fields

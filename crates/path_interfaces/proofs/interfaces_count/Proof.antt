@@ -1,0 +1,41 @@
+-- `interfaces_count` meets its contract: the order of calls on standard paths, then the count.
+use Rattle.path.specs.Dataplane as path
+use Rattle.path_interfaces.specs.Interfaces as spec
+use borrow.Author.Needs.{needs}
+use Rattle.path_interfaces.proofs.interfaces_count.Statement.{statement}
+use Rattle.path_interfaces.proofs.interfaces_count.Tie as tie
+
+standard-requires : tie.Need-standard-requires
+standard-requires c κs = search needs
+
+enum-told : tie.Need-enum-told
+enum-told c = search needs
+
+of-requires : tie.Need-of-requires
+of-requires c κs = search needs
+
+enum-known-answer : tie.Need-enum-known-answer
+enum-known-answer c = search needs
+
+refused-requires : tie.Need-refused-requires
+refused-requires c κs = search needs
+
+returns : tie.Need-returns
+unfolding spec.interfacesIn path.onStandard path.carriedOut
+returns c = rw (← c .before .before .before .standard .ensures, c .before .enum-told .given .1) (c .of .ensures)
+
+returns-2 : tie.Need-returns-2
+unfolding spec.interfacesIn path.onStandard path.carriedOut
+returns-2 c = rw (← c .before .before .before .before .standard .ensures, c .before .before .answer .given .1) (c .refused .ensures)
+
+pub interfaces-count-spec : {M : Type 1} → statement M
+interfaces-count-spec =
+    tie.close
+    (tie.spec
+    standard-requires
+    enum-told
+    of-requires
+    enum-known-answer
+    refused-requires
+    returns
+    returns-2)

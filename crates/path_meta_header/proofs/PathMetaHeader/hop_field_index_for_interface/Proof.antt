@@ -1,0 +1,45 @@
+-- `hop_field_index_for_interface` meets its contract: the test on the count, then the link and its segment.
+use native.Mathlib.Omega.{arith}
+use borrow.Author.Tests.{le-leb, lt-leb}
+use Prim.Native.Nat.{_<_, _≤_}
+use Rattle.path_meta_header.specs.MetaHeader as spec
+use borrow.Author.Needs.{needs}
+use Rattle.path_meta_header.proofs.PathMetaHeader.hop_field_index_for_interface.Statement.{statement}
+use Rattle.path_meta_header.proofs.PathMetaHeader.hop_field_index_for_interface.Tie as tie
+
+interfaces-count-requires : tie.Need-interfaces-count-requires
+interfaces-count-requires c κs = search needs
+
+returns : tie.Need-returns
+unfolding spec.hopFieldOf
+returns c =
+    let a = c .before .before .args in
+    let outside : spec.interfacesCount (a .self) ≤ a .index = omega arith in
+    rw (le-leb _ _ outside)
+
+add-t6 : tie.Need-add-t6
+add-t6 c = search needs
+
+segment-of-link-requires : tie.Need-segment-of-link-requires
+segment-of-link-requires c κs = search needs
+
+add-t8 : tie.Need-add-t8
+add-t8 c = search needs
+
+returns-2 : tie.Need-returns-2
+unfolding spec.hopFieldOf
+returns-2 c =
+    let a = c .before .before .before .args in
+    let inside : a .index < spec.interfacesCount (a .self) = omega arith in
+    rw (lt-leb _ _ inside, c .segment-of-link .ensures .0)
+
+pub hop-field-index-for-interface-spec : {M : Type 1} → statement M
+hop-field-index-for-interface-spec =
+    tie.close
+    (tie.spec
+    interfaces-count-requires
+    returns
+    add-t6
+    segment-of-link-requires
+    add-t8
+    returns-2)

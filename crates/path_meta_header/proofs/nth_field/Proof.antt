@@ -1,0 +1,24 @@
+-- `nth_field` meets its contract: a shift is a division by a power of two.
+use Rattle.path_meta_header.specs.MetaHeader as spec
+use borrow.Author.Needs.{needs}
+use Rattle.path_meta_header.proofs.nth_field.Statement.{statement}
+use Rattle.path_meta_header.proofs.nth_field.Tie as tie
+
+sub-result : tie.Need-sub-result
+sub-result c = search needs
+
+mul-result : tie.Need-mul-result
+mul-result c = search needs
+
+shr-result : tie.Need-shr-result
+shr-result c = search needs
+
+cast-result : tie.Need-cast-result
+cast-result c = search needs
+
+returns : tie.Need-returns
+unfolding spec.nthField
+returns c = search needs
+
+pub nth-field-spec : {M : Type 1} → statement M
+nth-field-spec = tie.close (tie.spec sub-result mul-result shr-result cast-result returns)

@@ -1,0 +1,48 @@
+-- `reverse_standard` meets its contract: by what reading finds.
+use mathlib.Core.Path.{sym, ap, _∙_}
+use Rattle.path_error.specs.declared.Decoded.{Decoded}
+use Rattle.reverse.proofs.Laws.{not-read}
+use borrow.Author.Needs.{needs}
+use Rattle.reverse.proofs.reverse_standard.Statement.{statement}
+use Rattle.reverse.proofs.reverse_standard.Tie as tie
+
+decode-requires : tie.Need-decode-requires
+decode-requires c κs = search needs
+
+enum-told : tie.Need-enum-told
+enum-told c = search needs
+
+reverse-path-requires : tie.Need-reverse-path-requires
+reverse-path-requires c κs =
+    let read = c .before .before .before .decode in
+    sym (read .ensures) ∙ ap (λ (answer : Decoded). record { answer = answer; path = read .result .path }) (c .before .enum-told .given .1)
+
+enum-known-answer : tie.Need-enum-known-answer
+enum-known-answer c = search needs
+
+not-read-requires : tie.Need-not-read-requires
+not-read-requires c κs = search needs
+
+same-length : tie.Need-same-length
+same-length c = search needs
+
+returns : tie.Need-returns
+returns c = c .before .before .reverse-path .ensures
+
+returns-2 : tie.Need-returns-2
+returns-2 c =
+    let a = c .before .before .before .before .before .before .before .args in
+    rw (c .not-read .ensures) (not-read (a .bytes .now) (a .dst .now) (c .before .before .before .before .decode .ensures) (c .before .before .answer .given .1))
+
+pub reverse-standard-spec : {M : Type 1} → statement M
+reverse-standard-spec =
+    tie.close
+    (tie.spec
+    decode-requires
+    enum-told
+    reverse-path-requires
+    enum-known-answer
+    not-read-requires
+    same-length
+    returns
+    returns-2)
