@@ -6,6 +6,7 @@
 mod fields;
 mod packets;
 mod paths;
+mod runs;
 
 /// The words of a line, and the answer that is made of them.
 pub struct Line<'a> {
@@ -77,7 +78,10 @@ pub fn parse_bytes(word: &str) -> Vec<u8> {
 /// The Rust's answer to a call, as text; none where it is no call or one that the Rust can't be asked.
 pub fn answer(text: &str) -> Option<String> {
     let mut line = Line::new(text);
-    let is_known = paths::answer(&mut line) || fields::answer(&mut line) || packets::answer(&mut line);
+    let is_known = paths::answer(&mut line)
+        || fields::answer(&mut line)
+        || packets::answer(&mut line)
+        || runs::answer(&mut line);
     is_known.then_some(line.answer)
 }
 
