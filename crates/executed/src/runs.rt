@@ -40,11 +40,15 @@ fn parts(line: &[u8]) {
     print::bytes(run::before_last(bytes));
 }
 
-// `hops T B`: how many hop fields the path has, and their bytes.
+// `hops T B`: whether the path has hop fields, how many, and their bytes.
 fn hops(line: &[u8]) {
     let mut room = words::room();
     let length = words::bytes_at(line, 2, &mut room);
-    let hop_fields = run::of_path(DataplanePath::new(words::u8_at(line, 1)), &room[..length]);
+    let bytes = &room[..length];
+    let path_type = words::u8_at(line, 1);
+    let answer = run::locate(DataplanePath::new(path_type), bytes).answer;
+    print::answer(answer);
+    let hop_fields = run::of_path(DataplanePath::new(path_type), bytes);
     print::number(run::count(hop_fields) as u64);
     print::bytes(hop_fields);
 }

@@ -3,7 +3,7 @@
 use Prim.Native.Nat.{ℕ}
 use mathlib.Core.Path.{_≡_, refl}
 use mathlib.Core.List.{List, [], _∷_, _++_}
-use lib.ListN.{replicate}
+use lib.ListN.{replicate, take}
 use Rattle.wire_encoding.specs.BigEndian.{bigEndian, numberAt, room}
 use Rattle.path_error.specs.Errors.{answerNumber}
 use Rattle.path_fields.specs.Fields.{hopFieldAt, zeroHopField, newHopField}
@@ -50,12 +50,15 @@ pub thirteen-bytes : (answerNumber (run.answer (0xFF ∷ a)) ≡ 9) × ((run.who
 unfolding run.answer run.whole
 thirteen-bytes = (refl, (refl, refl))
 
--- after two info fields, for a standard path alone
-pub path-run : (dataplane.partIn path (run.located 1 path) ≡ a ++ (b ++ c)) × (dataplane.partIn path (run.located 2 path) ≡ [])
+-- after two info fields; 8 for a path of another type, 1 for one cut short
+pub path-run : (dataplane.partIn path (run.located 1 path .part) ≡ a ++ (b ++ c))
+    × ((answerNumber (run.located 2 path .answer) ≡ 8)
+    × ((dataplane.partIn path (run.located 2 path .part) ≡ [])
+    × (answerNumber (run.located 1 (take 55 path) .answer) ≡ 1)))
 unfolding bigEndian numberAt room run.located
     meta.nthField meta.metaOf meta.infoFieldsCount meta.hopFieldsCount meta.segmentOf meta.pathLength meta.lengthsValid meta.infoValid meta.hopValid
     meta.firstRefusal meta.checked meta.settled meta.metaRead meta.readMeta
-    standard.complete standard.readPath
+    standard.complete standard.pathRefused standard.readPath
     dataplane.unread dataplane.standardRead dataplane.readDataplane dataplane.answerRefused dataplane.standardAnswer dataplane.standardOf
-    dataplane.carriedOut dataplane.onStandard
-path-run = (refl, refl)
+    dataplane.carriedOut dataplane.onStandard dataplane.notLocated
+path-run = (refl, (refl, (refl, refl)))

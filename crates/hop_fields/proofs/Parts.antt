@@ -8,7 +8,8 @@ use native.Mathlib.Omega.{arith}
 use lib.ListN.{length, take, drop, length-drop, drop-of-length-le}
 use lib.Seq.{take-all}
 use Rattle.path_meta_header.specs.MetaHeader.{pathLength}
-use Rattle.path.specs.declared.standard.Part.{Part}
+use Rattle.path.specs.Dataplane.{notLocated}
+use Rattle.path.specs.declared.dataplane.Located.{Located}
 use Rattle.path.proofs.Reading.{carried}
 use Rattle.hop_fields.specs.Run.{afterFirst, beforeLast, located}
 
@@ -26,8 +27,8 @@ nothing-before run short =
     ap (λ (n : ℕ). take n run) none
 
 -- the hop fields of a path lie among its bytes
-pub located-inside : (type : ℕ) (bytes : List ℕ) → located type bytes .start + located type bytes .len ≤ length bytes
-unfolding located pathLength
+pub located-inside : (type : ℕ) (bytes : List ℕ) → located type bytes .part .start + located type bytes .part .len ≤ length bytes
+unfolding located notLocated pathLength
 located-inside type bytes =
-    carried bytes (λ (part : Part). part .start + part .len ≤ length bytes) type _ _ (λ error. omega arith)
+    carried bytes (λ (r : Located). r .part .start + r .part .len ≤ length bytes) type _ _ (λ error. omega arith)
     (λ path readable. omega (arith, readable .whole))

@@ -82,10 +82,10 @@ unfoldable pub SegmentRuns : Type 0
 SegmentRuns = (type : ℕ) (bytes : List ℕ) (k : ℕ) → segmentIn type bytes k .answer ≡ Accepted → SegmentRun type bytes k
 
 pub record PathRun (type : ℕ) (bytes : List ℕ) : Type 0 where
-  pub count : count (partIn bytes (located type bytes)) ≡ hopFieldsCount (standardOf type bytes .path .«meta_header»)
+  pub count : count (partIn bytes (located type bytes .part)) ≡ hopFieldsCount (standardOf type bytes .path .«meta_header»)
   pub hop-field :
       (j : ℕ) → j < hopFieldsCount (standardOf type bytes .path .«meta_header») →
-      hopField (partIn bytes (located type bytes)) j ≡ partIn bytes (hopFieldIn type bytes j .part)
+      hopField (partIn bytes (located type bytes .part)) j ≡ partIn bytes (hopFieldIn type bytes j .part)
 
 unfoldable pub PathRuns : Type 0
 PathRuns = (type : ℕ) (bytes : List ℕ) → standardOf type bytes .answer ≡ Accepted → PathRun type bytes

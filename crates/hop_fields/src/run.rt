@@ -1,6 +1,6 @@
 // A run of hop fields as bytes: the hop field at either end, what is left without it, how many there are.
 use path::dataplane::DataplanePath;
-use path::standard::Part;
+use path::dataplane::Located;
 use path_error::Answer;
 use path_error::PathError;
 use path_fields::HopField;
@@ -77,27 +77,33 @@ pub fn before_last<'a>(run: &'a [u8]) -> &'a [u8]
     &run[..run.len() - HopField::LENGTH]
 }
 
-// Where the hop fields of a standard path lie, all of them; the part 0, 0 where the path is refused.
-pub fn locate(path: DataplanePath, bytes: &[u8]) -> Part
+// Where the hop fields of a standard path lie, all of them.
+pub fn locate(path: DataplanePath, bytes: &[u8]) -> Located
     ensures { λ r. ⌜ r ≡ spec.located (path .«path_type») (now (bytes .entry)) ⌝ }
 {
     let read = path.standard(bytes);
     let answer = read.answer;
-    let meta_header = read.path.meta_header;
+    let standard = read.path;
+    let meta_header = standard.meta_header;
     match answer {
-        Answer::Accepted => Part {
-            start: PathMetaHeader::LENGTH + meta_header.info_fields_count() * InfoField::LENGTH,
-            len: meta_header.hop_fields_count() * HopField::LENGTH,
-        },
-        Answer::Refused(_) => Part { start: 0, len: 0 },
+        Answer::Accepted => {
+            let start = PathMetaHeader::LENGTH
+                + meta_header.info_fields_count() * InfoField::LENGTH;
+            Located::accepted(
+                standard,
+                start,
+                meta_header.hop_fields_count() * HopField::LENGTH,
+            )
+        }
+        Answer::Refused(error) => Located::refused(error),
     }
 }
 
-// The hop fields of a standard path, all of them, as a part of its bytes; empty where the path is refused.
+// The hop fields of a standard path, all of them, as a part of its bytes; empty where `locate` refuses.
 pub fn of_path(path: DataplanePath, bytes: &[u8]) -> &[u8]
-    ensures { λ r. ⌜ now r ≡ partIn (now (bytes .entry)) (spec.located (path .«path_type») (now (bytes .entry))) ⌝ }
+    ensures { λ r. ⌜ now r ≡ partIn (now (bytes .entry)) (spec.located (path .«path_type») (now (bytes .entry)) .part) ⌝ }
 {
-    let part = locate(path, bytes);
+    let part = locate(path, bytes).part;
     let start = part.start;
     let end = start + part.len;
     &bytes[start..end]

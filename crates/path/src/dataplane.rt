@@ -113,7 +113,8 @@ impl PathAnswer {
 }
 
 impl Located {
-    fn accepted(path: StandardPath, start: usize, len: usize) -> Located
+    // A field that lies in a path, from `start` on.
+    pub fn accepted(path: StandardPath, start: usize, len: usize) -> Located
         ensures { λ r. ⌜ r ≡ record { answer = answers.Accepted; path = path; part = record { start = start; len = len } } ⌝ }
     {
         Located {
@@ -123,7 +124,7 @@ impl Located {
         }
     }
 
-    fn refused(error: PathError) -> Located
+    pub fn refused(error: PathError) -> Located
         ensures { λ r. ⌜ r ≡ spec.notLocated error ⌝ }
     {
         let path = StandardPath::zero();

@@ -67,7 +67,10 @@ pub fn answer(line: &mut Line) -> bool {
         "hops" => {
             let bytes = line.bytes(2);
             let oracle = Oracle::new(line.byte(1), &bytes);
-            add_run(line, oracle.standard().ok().map(|path| path.hop_fields()));
+            let standard = oracle.standard();
+            let answer = standard.err().unwrap_or_default();
+            line.add(answer.number).add(answer.value);
+            add_run(line, standard.ok().map(|path| path.hop_fields()));
         }
         "seghops" => {
             let bytes = line.bytes(2);

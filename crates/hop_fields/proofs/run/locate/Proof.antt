@@ -15,28 +15,34 @@ enum-told c = search needs
 info-fields-count-requires : tie.Need-info-fields-count-requires
 info-fields-count-requires c κs = search needs
 
-mul-t8 : tie.Need-mul-t8
-mul-t8 c = search needs
+mul-start : tie.Need-mul-start
+mul-start c = search needs
 
-add-t9 : tie.Need-add-t9
-add-t9 c = search needs
+add-start : tie.Need-add-start
+add-start c = search needs
 
 hop-fields-count-requires : tie.Need-hop-fields-count-requires
 hop-fields-count-requires c κs = search needs
 
-mul-t11 : tie.Need-mul-t11
-mul-t11 c = search needs
+mul-accepted : tie.Need-mul-accepted
+mul-accepted c = search needs
 
-enum-told-2 : tie.Need-enum-told-2
-enum-told-2 c = search needs
+accepted-requires : tie.Need-accepted-requires
+accepted-requires c κs = search needs
+
+enum-known-answer : tie.Need-enum-known-answer
+enum-known-answer c = search needs
+
+refused-requires : tie.Need-refused-requires
+refused-requires c κs = search needs
 
 returns : tie.Need-returns
 unfolding spec.located onStandard carriedOut
-returns c = rw (← c .before .before .before .before .before .standard .ensures, c .before .before .enum-told .given .1, ← c .before .info-fields-count .ensures .0, ← c .hop-fields-count .ensures .0, add-zero)
+returns c = rw (← c .before .before .before .before .before .before .before .standard .ensures, c .before .before .before .enum-told .given .1, ← c .before .before .info-fields-count .ensures .0, ← c .before .hop-fields-count .ensures .0, add-zero) (c .accepted .ensures)
 
 returns-2 : tie.Need-returns-2
 unfolding spec.located onStandard carriedOut
-returns-2 c = rw (← c .before .before .before .standard .ensures, c .enum-told2 .given .1)
+returns-2 c = rw (← c .before .before .before .before .before .before .standard .ensures, c .before .before .answer .given .1) (c .refused .ensures)
 
 pub locate-spec : {M : Type 1} → statement M
 locate-spec =
@@ -45,10 +51,12 @@ locate-spec =
     standard-requires
     enum-told
     info-fields-count-requires
-    mul-t8
-    add-t9
+    mul-start
+    add-start
     hop-fields-count-requires
-    mul-t11
-    enum-told-2
+    mul-accepted
+    accepted-requires
+    enum-known-answer
+    refused-requires
     returns
     returns-2)

@@ -10,7 +10,7 @@ locate-requires : tie.Need-locate-requires
 locate-requires c κs = search needs
 
 add-end : tie.Need-add-end
-add-end c = let a = c .before .before .before .args in omega (arith, rw (← c .before .locate .ensures) at (located-inside (a .path .«path_type») (a .bytes .now)))
+add-end c = let a = c .before .before .before .before .args in omega (arith, rw (← c .before .before .locate .ensures) at (located-inside (a .path .«path_type») (a .bytes .now)))
 
 sub-result : tie.Need-sub-result
 sub-result c = search needs
@@ -19,10 +19,10 @@ part-result-start : tie.Need-part-result-start
 part-result-start c = search needs
 
 part-result-end : tie.Need-part-result-end
-part-result-end c = let a = c .before .before .before .args in omega (arith, rw (← c .before .locate .ensures) at (located-inside (a .path .«path_type») (a .bytes .now)))
+part-result-end c = let a = c .before .before .before .before .args in omega (arith, rw (← c .before .before .locate .ensures) at (located-inside (a .path .«path_type») (a .bytes .now)))
 
 returns : tie.Need-returns
-returns c = rw (add-sub-cancel-left, c .before .before .locate .ensures)
+returns c = rw (add-sub-cancel-left, c .before .before .before .locate .ensures)
 
 pub of-path-spec : {M : Type 1} → statement M
 of-path-spec =
