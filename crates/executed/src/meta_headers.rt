@@ -1,11 +1,11 @@
 // Calls on the meta header of a path.
 use crate::print;
 use crate::words;
-use path_meta_header::Encoded;
+use meta_header_encoding::Encoded;
+use meta_header_encoding::Word;
 use path_meta_header::HopFieldOf;
 use path_meta_header::Offset;
 use path_meta_header::PathMetaHeader;
-use path_meta_header::Word;
 
 // The pointers, the reserved bits and the three lengths.
 pub fn record(meta_header: PathMetaHeader) {
@@ -95,7 +95,7 @@ fn word(word: Word) {
 
 // The lengths of the reversed header.
 fn reversed(meta_header: PathMetaHeader) {
-    let reversed = meta_header.to_reversed();
+    let reversed = meta_header_reversal::to_reversed(meta_header);
     let lengths = reversed.segment_lengths;
     print::byte(lengths[0]);
     print::byte(lengths[1]);
@@ -110,7 +110,7 @@ fn counts(line: &[u8]) {
     print::number(meta_header.interfaces_count() as u64);
     print::number(meta_header.encoded_path_length() as u64);
     print::number(meta_header.computed_info_field_index() as u64);
-    word(meta_header.as_u32());
+    word(meta_header_encoding::as_u32(meta_header));
     reversed(meta_header);
 }
 
@@ -129,7 +129,7 @@ fn encode(line: &[u8]) {
     let mut room = words::room();
     let length = words::bytes_at(line, 7, &mut room);
     let dst = &mut room[..length];
-    encoded(meta_header.encode_to(dst));
+    encoded(meta_header_encoding::encode_to(meta_header, dst));
     print::bytes(dst);
 }
 

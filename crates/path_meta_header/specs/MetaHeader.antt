@@ -2,20 +2,16 @@
 use Prim.Native.Nat.{ℕ, _+_, _*_, _-_, _/_, _%_, _^_}
 use mathlib.Core.List.{List, [], _∷_}
 use mathlib.Core.Bool.{Bool, true, false}
-use lib.ListN.{length, getD}
+use lib.ListN.{getD}
 use lib.Dec.{leb, ltb, eqb}
 use Rattle.wire_encoding.specs.Choice.{pick, Answer, value, refused}
-use Rattle.wire_encoding.specs.BigEndian.{numberAt, bytesOf}
+use Rattle.wire_encoding.specs.BigEndian.{numberAt}
 use Rattle.path_meta_header.specs.declared.PathMetaHeader.{PathMetaHeader}
 use Rattle.path_meta_header.specs.declared.MetaRead.{MetaRead}
 use Rattle.path_meta_header.specs.declared.Offset.{Offset}
 use Rattle.path_meta_header.specs.declared.Offset.the-variants as offset
 use Rattle.path_meta_header.specs.declared.HopFieldOf.{HopFieldOf}
 use Rattle.path_meta_header.specs.declared.HopFieldOf.the-variants as hop
-use Rattle.path_meta_header.specs.declared.Word.{Word}
-use Rattle.path_meta_header.specs.declared.Word.the-variants as word
-use Rattle.path_meta_header.specs.declared.Encoded.{Encoded}
-use Rattle.path_meta_header.specs.declared.Encoded.the-variants as written
 use Rattle.path_error.specs.declared.Decoded.{Decoded}
 use Rattle.path_error.specs.declared.Decoded.the-variants.{Accepted, Refused}
 use Rattle.path_error.specs.declared.DecodeError.the-variants.{PacketEmptyOrTruncated, InvalidPath}
@@ -122,58 +118,3 @@ metaRead (refused number) = settled (Refused PacketEmptyOrTruncated) (metaOf 0)
 -- reading the meta header that begins bytes: too few (1), then its rules
 unfoldable pub readMeta : List ℕ → MetaRead
 readMeta bytes = metaRead (numberAt 4 bytes 0)
-
--- whether a number has at most `bits` bits
-abbrev pub fits : ℕ → ℕ → Bool
-fits bits n = ltb n (2 ^ bits)
-
--- whether each number fits its field
-unfoldable pub fieldsFit : PathMetaHeader → Bool
-fieldsFit m =
-    pick (fits 2 (m .«current_info_field»))
-    (pick (fits 6 (m .«current_hop_field»))
-    (pick (fits 6 (m .reserved))
-    (pick (fits 6 (segmentLength m 0)) (pick (fits 6 (segmentLength m 1)) (fits 6 (segmentLength m 2)) false) false)
-    false)
-    false)
-    false
-
--- the word of a header
-unfoldable pub wordOf : PathMetaHeader → ℕ
-wordOf m =
-    ((((m .«current_info_field» * 64 + m .«current_hop_field») * 64 + m .reserved) * 64 + segmentLength m 0) * 64 + segmentLength m 1) * 64
-    + segmentLength m 2
-
--- the word, or 10 for a number wider than its field
-unfoldable pub asWord : PathMetaHeader → Answer
-asWord m = pick (fieldsFit m) (value (wordOf m)) (refused 10)
-
-abbrev pub answerWord : Word → Answer
-answerWord (word.Value n) = value n
-answerWord word.TooWide = refused 10
-
-abbrev pub encodedNumber : Encoded → ℕ
-encodedNumber written.Done = 0
-encodedNumber written.TooWide = 10
-encodedNumber written.InadequateBufferSize = 9
-
--- writing a header: 10, then 9 for a destination that is not of 4 bytes; the destination is then the header's bytes, or what it was
-unfoldable pub encoding : PathMetaHeader → List ℕ → ℕ
-encoding m dst = pick (fieldsFit m) (pick (eqb (length dst) 4) 0 9) 10
-
-unfoldable pub encoded : PathMetaHeader → List ℕ → List ℕ
-encoded m dst = pick (fieldsFit m) (pick (eqb (length dst) 4) (bytesOf 4 (wordOf m)) dst) dst
-
--- a header with these lengths, pointers and reserved bits zero
-unfoldable pub atStart : List ℕ → PathMetaHeader
-atStart lengths =
-    record { «current_info_field» = 0; «current_hop_field» = 0; reserved = 0; «segment_lengths» = lengths }
-
--- the draft's Path Reversal of a meta header: the I lengths in opposite order
-unfoldable pub reversedLengths : ℕ → ℕ → ℕ → List ℕ
-reversedLengths a b c =
-    pick (eqb a 0) (0 ∷ 0 ∷ 0 ∷ [])
-    (pick (eqb b 0) (a ∷ 0 ∷ 0 ∷ []) (pick (eqb c 0) (b ∷ a ∷ 0 ∷ []) (c ∷ b ∷ a ∷ [])))
-
-unfoldable pub reversedMeta : PathMetaHeader → PathMetaHeader
-reversedMeta m = atStart (reversedLengths (segmentLength m 0) (segmentLength m 1) (segmentLength m 2))

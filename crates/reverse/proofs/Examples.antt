@@ -7,6 +7,8 @@ use lib.ListN.{replicate}
 use Rattle.wire_encoding.specs.BigEndian.{bigEndian, bytesOf, numberAt, room}
 use Rattle.wire_encoding.specs.Bits.{withBit}
 use Rattle.path_meta_header.specs.MetaHeader as meta
+use Rattle.meta_header_reversal.specs.Reversal as reversal
+use Rattle.meta_header_encoding.specs.Encoding as encoding
 use Rattle.path.specs.Standard as standard
 use Rattle.path.specs.Dataplane as dataplane
 use Rattle.reverse.specs.Reverse as reverse
@@ -35,7 +37,7 @@ pub examples : (reverse.reversed 1 one-segment (replicate 36 0) ≡ one-segment-
     × ((reverse.reversed 1 one-segment (replicate 37 0) ≡ replicate 37 0) × (reverse.reversed 7 (1 ∷ 2 ∷ 3 ∷ []) (0 ∷ 0 ∷ 0 ∷ []) ≡ 1 ∷ 2 ∷ 3 ∷ []))))
 unfolding one-segment two-segments three-segments one-segment-reversed two-segments-reversed three-segments-reversed bigEndian bytesOf numberAt room withBit
     meta.nthField meta.metaOf meta.infoFieldsCount meta.hopFieldsCount meta.segmentOf meta.pathLength meta.lengthsValid meta.infoValid meta.hopValid
-    meta.firstRefusal meta.checked meta.settled meta.metaRead meta.readMeta meta.wordOf meta.atStart meta.reversedLengths meta.reversedMeta
+    meta.firstRefusal meta.checked meta.settled meta.metaRead meta.readMeta encoding.wordOf reversal.atStart reversal.reversedLengths reversal.reversedMeta
     standard.zeroPath standard.pathRefused standard.complete standard.readPath
     dataplane.unread dataplane.standardRead dataplane.readDataplane dataplane.destination dataplane.destinationIn dataplane.copiedBy
     reverse.reversedRecords reverse.flipped reverse.same reverse.reversedPath reverse.reversedRun reverse.reversed

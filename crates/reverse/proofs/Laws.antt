@@ -17,24 +17,15 @@ use Rattle.wire_encoding.specs.BigEndian.{bigEndian, bytesOf, part, placed}
 use Rattle.wire_encoding.proofs.Parts.{length-part, part-cons, part-bytes, part-join, written-after, sets-whole}
 use Rattle.wire_encoding.proofs.Numbers.{length-bytesOf, read-bytesOf}
 use Rattle.wire_encoding.proofs.Writes.{placed-is}
-use Rattle.path_meta_header.specs.MetaHeader.{
-  nthField,
-  metaOf,
-  infoFieldsCount,
-  hopFieldsCount,
-  pathLength,
-  fieldsFit,
-  wordOf,
-  atStart,
-  reversedLengths,
-  reversedMeta,
-}
+use Rattle.path_meta_header.specs.MetaHeader.{nthField, metaOf, infoFieldsCount, hopFieldsCount, pathLength}
+use Rattle.meta_header_reversal.specs.Reversal.{atStart, reversedLengths, reversedMeta}
+use Rattle.meta_header_encoding.specs.Encoding.{fieldsFit, wordOf}
 use Rattle.path_meta_header.specs.declared.PathMetaHeader.{PathMetaHeader}
 use Rattle.path_error.specs.declared.Decoded.the-variants as decoded
 use Rattle.path_error.specs.declared.DecodeError.{DecodeError}
 use Rattle.path_error.specs.declared.Answer.the-variants as answer
 use Rattle.path_error.specs.declared.PathError.the-variants.{Decode, InadequateBufferSize}
-use Rattle.path_meta_header.proofs.MetaLaws.{fitting, word-below, meta-back}
+use Rattle.meta_header_encoding.proofs.EncodingLaws.{fitting, word-below, meta-back}
 use Rattle.path.specs.declared.standard.PathRead.{PathRead}
 use Rattle.path.specs.declared.dataplane.PathAnswer.{PathAnswer}
 use Rattle.path.specs.Standard.{readPath}

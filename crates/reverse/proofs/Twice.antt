@@ -16,17 +16,9 @@ use Rattle.wire_encoding.specs.BigEndian.{bytesOf, part}
 use Rattle.wire_encoding.proofs.Flags.{bit-kept}
 use Rattle.wire_encoding.proofs.Parts.{length-part}
 use Rattle.wire_encoding.proofs.Numbers.{length-bytesOf}
-use Rattle.path_meta_header.specs.MetaHeader.{
-  metaOf,
-  segmentLength,
-  infoFieldsCount,
-  hopFieldsCount,
-  pathLength,
-  wordOf,
-  atStart,
-  reversedLengths,
-  reversedMeta,
-}
+use Rattle.path_meta_header.specs.MetaHeader.{metaOf, segmentLength, infoFieldsCount, hopFieldsCount, pathLength}
+use Rattle.meta_header_reversal.specs.Reversal.{atStart, reversedLengths, reversedMeta}
+use Rattle.meta_header_encoding.specs.Encoding.{wordOf}
 use Rattle.path_meta_header.specs.declared.PathMetaHeader.{PathMetaHeader}
 use Rattle.path.proofs.Links.{Segments, one, two, three, segments}
 use Rattle.path.proofs.Reading.{Readable}

@@ -9,7 +9,9 @@ use lib.Dec.{eqb}
 use Rattle.wire_encoding.specs.Choice.{pick}
 use Rattle.wire_encoding.specs.Bits.{bitOf, withBit}
 use Rattle.wire_encoding.specs.BigEndian.{bytesOf, part}
-use Rattle.path_meta_header.specs.MetaHeader.{infoFieldsCount, hopFieldsCount, pathLength, fieldsFit, wordOf, reversedMeta}
+use Rattle.path_meta_header.specs.MetaHeader.{infoFieldsCount, hopFieldsCount, pathLength}
+use Rattle.meta_header_reversal.specs.Reversal.{reversedMeta}
+use Rattle.meta_header_encoding.specs.Encoding.{fieldsFit, wordOf}
 use Rattle.path_meta_header.specs.declared.PathMetaHeader.{PathMetaHeader}
 use Rattle.path.specs.declared.standard.StandardPath.{StandardPath}
 use Rattle.path.specs.declared.dataplane.PathAnswer.{PathAnswer}

@@ -1,4 +1,5 @@
 // Path reversal: the reply's path, written into lent bytes. Document 01 calls it a turn.
+use meta_header_encoding::Word;
 use path::dataplane::DataplanePath;
 use path::dataplane::PathAnswer;
 use path::standard::StandardPath;
@@ -7,7 +8,6 @@ use path_error::PathError;
 use path_fields::HopField;
 use path_fields::InfoField;
 use path_meta_header::PathMetaHeader;
-use path_meta_header::Word;
 use wire_encoding::write::put_u32;
 ghost use mathlib.Core.Path.{_≡_};
 ghost use mathlib.Core.Bool.{true};
@@ -16,7 +16,7 @@ ghost use Prim.Native.Nat.{_+_, _*_, _≤_};
 ghost use lib.ListN.{length, drop};
 ghost use lib.Seq.{sets};
 ghost use Rattle.wire_encoding.specs.BigEndian.{part};
-ghost use Rattle.path_meta_header.specs.MetaHeader.{fieldsFit, wordOf};
+ghost use Rattle.meta_header_encoding.specs.Encoding.{fieldsFit, wordOf};
 ghost use Rattle.path_error.specs.declared.Decoded.the-variants as decoded;
 ghost use Rattle.path.specs.Standard.{readPath};
 ghost use Rattle.reverse.specs.Reverse as spec;
@@ -115,7 +115,7 @@ fn word_of(meta_header: PathMetaHeader) -> u32
     requires { ⌜ fieldsFit «meta_header» ≡ true ⌝ }
     ensures { λ r. ⌜ r ≡ wordOf «meta_header» ⌝ }
 {
-    match meta_header.as_u32() {
+    match meta_header_encoding::as_u32(meta_header) {
         Word::Value(word) => word,
         Word::TooWide => 0,
     }
@@ -128,7 +128,7 @@ fn reverse_fields(meta_header: PathMetaHeader, bytes: &[u8], dst: &mut [u8])
 {
     let infos = meta_header.info_fields_count();
     let hops = meta_header.hop_fields_count();
-    let reversed = meta_header.to_reversed();
+    let reversed = meta_header_reversal::to_reversed(meta_header);
     put_u32(dst, 0, word_of(reversed));
     reverse_info_fields(
         bytes,
@@ -149,7 +149,7 @@ fn reverse_path(meta_header: PathMetaHeader, bytes: &[u8], dst: &mut [u8]) -> Pa
 {
     if dst.len() == meta_header.encoded_path_length() {
         reverse_fields(meta_header, bytes, dst);
-        let reversed = meta_header.to_reversed();
+        let reversed = meta_header_reversal::to_reversed(meta_header);
         return PathAnswer::accepted(StandardPath {
             meta_header: reversed,
         });

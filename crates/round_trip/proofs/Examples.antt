@@ -14,6 +14,8 @@ use Rattle.wire_encoding.specs.Choice.{pick}
 use Rattle.wire_encoding.specs.BigEndian.{bigEndian, bytesOf, numberAt, room}
 use Rattle.wire_encoding.specs.Bits.{withBit}
 use Rattle.path_meta_header.specs.MetaHeader as meta
+use Rattle.meta_header_reversal.specs.Reversal as reversal
+use Rattle.meta_header_encoding.specs.Encoding as encoding
 use Rattle.path_fields.specs.Fields as fields
 use Rattle.path_fields.specs.declared.Interface.the-variants.{Id}
 use Rattle.path_error.specs.declared.Answer.{Answer}
@@ -101,7 +103,7 @@ reply-begins : take 20 (reply peered)
     ≡ 0x00 ∷ 0x00 ∷ 0x30 ∷ 0xC0 ∷ 0x02 ∷ 0x00 ∷ 0x86 ∷ 0x2D ∷ 0x00 ∷ 0x00 ∷ 0x00 ∷ 0x01 ∷ 0x03 ∷ 0x00 ∷ 0xB0 ∷ 0x1D ∷ 0x00 ∷ 0x00 ∷ 0x00 ∷ 0x01 ∷ []
 unfolding bigEndian bytesOf numberAt room withBit meta.nthField meta.metaOf meta.infoFieldsCount meta.hopFieldsCount
     meta.segmentOf meta.pathLength meta.lengthsValid meta.hopValid meta.infoValid meta.firstRefusal meta.checked meta.settled
-    meta.metaRead meta.readMeta meta.wordOf meta.atStart meta.reversedLengths meta.reversedMeta standard.complete
+    meta.metaRead meta.readMeta encoding.wordOf reversal.atStart reversal.reversedLengths reversal.reversedMeta standard.complete
     standard.readPath dataplane.standardRead dataplane.readDataplane dataplane.standardAnswer dataplane.standardOf
     dataplane.carriedOut dataplane.onStandard dataplane.answered dataplane.destination dataplane.destinationIn dataplane.copiedBy
     moves.ownerOf moves.spared moves.changeInside moves.positionOf moves.moveFrom moves.applied moves.moveBytes moves.peerings
@@ -132,7 +134,7 @@ travelled : leaves (after (begin peered) travels)
     ≡ 3 ∷ 1 ∷ 5 ∷ 0x00 ∷ 0x00 ∷ 0x30 ∷ 0xC0 ∷ 0x02 ∷ 0x00 ∷ 0x86 ∷ 0x2D ∷ 0x00 ∷ 0x00 ∷ 0x00 ∷ 0x01 ∷ 0x03 ∷ 0x00 ∷ []
 unfolding bigEndian bytesOf numberAt room withBit meta.nthField meta.metaOf meta.infoFieldsCount meta.hopFieldsCount
     meta.segmentOf meta.pathLength meta.lengthsValid meta.hopValid meta.infoValid meta.firstRefusal meta.checked meta.settled
-    meta.metaRead meta.readMeta meta.wordOf meta.atStart meta.reversedLengths meta.reversedMeta standard.complete
+    meta.metaRead meta.readMeta encoding.wordOf reversal.atStart reversal.reversedLengths reversal.reversedMeta standard.complete
     standard.readPath dataplane.standardRead dataplane.readDataplane dataplane.standardAnswer dataplane.standardOf
     dataplane.carriedOut dataplane.onStandard dataplane.answered dataplane.destination dataplane.destinationIn dataplane.copiedBy
     moves.ownerOf moves.spared moves.changeInside moves.positionOf moves.moveFrom moves.applied moves.moveBytes moves.peerings

@@ -13,11 +13,12 @@ use borrow.Author.Tests.{ltb-true, ltb-false}
 use Rattle.wire_encoding.specs.BigEndian.{bigEndian, bytesOf, part}
 use Rattle.wire_encoding.proofs.Parts.{Bytes, getD-part}
 use Rattle.wire_encoding.proofs.Numbers.{below, bytes-read}
-use Rattle.path_meta_header.specs.MetaHeader.{metaOf, wordOf, infoFieldsCount, hopFieldsCount, pathLength}
+use Rattle.path_meta_header.specs.MetaHeader.{metaOf, infoFieldsCount, hopFieldsCount, pathLength}
+use Rattle.meta_header_encoding.specs.Encoding.{wordOf}
 use Rattle.path_fields.specs.Fields.{infoFieldAt}
 use Rattle.path_meta_header.specs.declared.PathMetaHeader.{PathMetaHeader}
 use Rattle.path_fields.specs.declared.InfoField.{InfoField}
-use Rattle.path_meta_header.proofs.MetaLaws.{word-back}
+use Rattle.meta_header_encoding.proofs.EncodingLaws.{word-back}
 use Rattle.path.specs.Segment.{infoStart, hopStart}
 
 -- whether a < b

@@ -14,23 +14,12 @@ use Rattle.wire_encoding.specs.Bits.{bitOf, withBit}
 use Rattle.wire_encoding.specs.BigEndian.{bigEndian, part}
 use Rattle.wire_encoding.proofs.Flags.{bit-kept}
 use Rattle.wire_encoding.proofs.Parts.{Bytes}
-use Rattle.path_meta_header.specs.MetaHeader.{
-  nthField,
-  metaOf,
-  segmentLength,
-  infoFieldsCount,
-  hopFieldsCount,
-  pathLength,
-  segmentOf,
-  hopValid,
-  atStart,
-  reversedLengths,
-  reversedMeta,
-}
+use Rattle.path_meta_header.specs.MetaHeader.{nthField, metaOf, segmentLength, infoFieldsCount, hopFieldsCount, pathLength, segmentOf, hopValid}
+use Rattle.meta_header_reversal.specs.Reversal.{atStart, reversedLengths, reversedMeta}
 use Rattle.path_fields.specs.Fields.{infoFieldAt, withConstructedDir}
 use Rattle.path_meta_header.specs.declared.PathMetaHeader.{PathMetaHeader}
 use Rattle.path_fields.specs.declared.InfoField.{InfoField}
-use Rattle.path_meta_header.proofs.MetaLaws.{Fitting}
+use Rattle.meta_header_encoding.proofs.EncodingLaws.{Fitting}
 use Rattle.path.specs.Segment.{infoStart, hopStart}
 use Rattle.reverse.specs.Reverse.{reversedPath}
 use Rattle.moves.specs.Moves.{flagsAt, peerings, peeringAllowed}

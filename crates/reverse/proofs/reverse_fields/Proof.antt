@@ -1,6 +1,7 @@
 -- `reverse_fields` meets its contract: the header, the info fields and the hop fields, each written where the one before it ends.
 use mathlib.Core.Path.{ap, _∙_}
-use Rattle.path_meta_header.specs.MetaHeader.{pathLength, fieldsFit, wordOf}
+use Rattle.path_meta_header.specs.MetaHeader.{pathLength}
+use Rattle.meta_header_encoding.specs.Encoding.{fieldsFit, wordOf}
 use Rattle.reverse.proofs.Laws.{all-written}
 use borrow.Author.Needs.{needs}
 use Rattle.reverse.proofs.reverse_fields.Statement.{statement}

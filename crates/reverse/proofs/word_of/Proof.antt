@@ -1,8 +1,8 @@
 -- `word_of` meets its contract: `as_u32` answers with the word where every number fits, and refuses only where one does not.
 use mathlib.Core.Path.{_≡_}
 use mathlib.Core.Bool.{false}
-use Rattle.path_meta_header.specs.MetaHeader.{fieldsFit}
-use Rattle.path_meta_header.proofs.MetaLaws.{word-is, word-wide}
+use Rattle.meta_header_encoding.specs.Encoding.{fieldsFit}
+use Rattle.meta_header_encoding.proofs.EncodingLaws.{word-is, word-wide}
 use borrow.Author.Needs.{needs}
 use Rattle.reverse.proofs.word_of.Statement.{statement}
 use Rattle.reverse.proofs.word_of.Tie as tie

@@ -1,8 +1,8 @@
 -- `encode_to` meets its contract: what `as_u32` answers, then the size.
-use Rattle.path_meta_header.proofs.MetaLaws.{word-is, word-wide, encoded-done, encoded-size, encoded-wide}
+use Rattle.meta_header_encoding.proofs.EncodingLaws.{word-is, word-wide, encoded-done, encoded-size, encoded-wide}
 use borrow.Author.Needs.{needs}
-use Rattle.path_meta_header.proofs.PathMetaHeader.encode_to.Statement.{statement}
-use Rattle.path_meta_header.proofs.PathMetaHeader.encode_to.Tie as tie
+use Rattle.meta_header_encoding.proofs.encode_to.Statement.{statement}
+use Rattle.meta_header_encoding.proofs.encode_to.Tie as tie
 
 as-u32-requires : tie.Need-as-u32-requires
 as-u32-requires c κs = search needs
@@ -18,7 +18,7 @@ same-length c = search needs
 
 returns : tie.Need-returns
 returns c =
-    let m = c .before .before .before .before .before .before .before .before .before .before .args .self in
+    let m = c .before .before .before .before .before .before .before .before .before .before .args .meta-header in
     let known = word-is m (rw (c .before .before .before .before .before .before .number .given .1) at (c .before .before .before .before .before .before .before .before .as-u32 .ensures)) in
     encoded-done m _ (known .0) (c .before .before .before .before .if1 .taken)
     (rw (known .1) at (c .before .before .put-u32 .ensures .1))
@@ -27,10 +27,10 @@ enum-told : tie.Need-enum-told
 enum-told c = search needs
 
 returns-2 : tie.Need-returns-2
-returns-2 c = encoded-size _ _ (word-is (c .before .before .before .before .before .before .args .self) (rw (c .before .before .number .given .1) at (c .before .before .before .before .as-u32 .ensures)) .0) (c .if1 .left)
+returns-2 c = encoded-size _ _ (word-is (c .before .before .before .before .before .before .args .meta-header) (rw (c .before .before .number .given .1) at (c .before .before .before .before .as-u32 .ensures)) .0) (c .if1 .left)
 
 returns-3 : tie.Need-returns-3
-returns-3 c = encoded-wide _ _ (word-wide (c .before .before .before .before .args .self) (rw (c .enum-told .given .1) at (c .before .before .as-u32 .ensures)))
+returns-3 c = encoded-wide _ _ (word-wide (c .before .before .before .before .args .meta-header) (rw (c .enum-told .given .1) at (c .before .before .as-u32 .ensures)))
 
 pub encode-to-spec : {M : Type 1} → statement M
 encode-to-spec =

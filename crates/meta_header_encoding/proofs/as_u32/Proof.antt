@@ -1,11 +1,11 @@
 -- `as_u32` meets its contract: numbers that fit their fields make a word of 32 bits.
 use mathlib.Core.Path.{sym, _∙_}
 use native.Mathlib.Omega.{arith}
-use Rattle.path_meta_header.specs.MetaHeader as spec
-use Rattle.path_meta_header.proofs.MetaLaws.{Fitting, fitting}
+use Rattle.meta_header_encoding.specs.Encoding as encoding
+use Rattle.meta_header_encoding.proofs.EncodingLaws.{Fitting, fitting}
 use borrow.Author.Needs.{needs}
-use Rattle.path_meta_header.proofs.PathMetaHeader.as_u32.Statement.{statement}
-use Rattle.path_meta_header.proofs.PathMetaHeader.as_u32.Tie as tie
+use Rattle.meta_header_encoding.proofs.as_u32.Statement.{statement}
+use Rattle.meta_header_encoding.proofs.as_u32.Tie as tie
 
 fields-fit-requires : tie.Need-fields-fit-requires
 fields-fit-requires c κs = search needs
@@ -68,10 +68,10 @@ add-number-5 : tie.Need-add-number-5
 add-number-5 c = search needs
 
 cast-t27 : tie.Need-cast-t27
-cast-t27 c = let f : Fitting (c .before .before .before .before .before .before .before .before .before .args .self) = fitting (c .before .before .before .before .before .before .before .before .before .args .self) (sym (c .before .before .before .before .before .before .before .fields-fit .ensures) ∙ c .before .before .before .before .before .before .if1 .taken) in omega arith
+cast-t27 c = let f : Fitting (c .before .before .before .before .before .before .before .before .before .args .meta-header) = fitting (c .before .before .before .before .before .before .before .before .before .args .meta-header) (sym (c .before .before .before .before .before .before .before .fields-fit .ensures) ∙ c .before .before .before .before .before .before .if1 .taken) in omega arith
 
 returns : tie.Need-returns
-unfolding spec.asWord spec.wordOf
+unfolding encoding.asWord encoding.wordOf
 returns c =
     rw (
       c .before .before .before .before .before .wide .ensures .0,
@@ -84,7 +84,7 @@ returns c =
     )
 
 returns-2 : tie.Need-returns-2
-unfolding spec.asWord
+unfolding encoding.asWord
 returns-2 c = rw (sym (c .before .fields-fit .ensures) ∙ c .if1 .left)
 
 pub as-u32-spec : {M : Type 1} → statement M

@@ -3,8 +3,8 @@ use mathlib.Core.Path.{_∙_, sym, ap}
 use Rattle.wire_encoding.specs.Answers.{answerU2}
 use Rattle.wire_encoding.proofs.Widths.{was-value, was-wide}
 use borrow.Author.Needs.{needs}
-use Rattle.path_meta_header.proofs.fits_2.Statement.{statement}
-use Rattle.path_meta_header.proofs.fits_2.Tie as tie
+use Rattle.meta_header_encoding.proofs.fits_2.Statement.{statement}
+use Rattle.meta_header_encoding.proofs.fits_2.Tie as tie
 
 new-requires : tie.Need-new-requires
 new-requires c κs = search needs

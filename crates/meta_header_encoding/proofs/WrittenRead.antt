@@ -12,19 +12,10 @@ use Rattle.wire_encoding.specs.Choice.{value}
 use Rattle.wire_encoding.specs.BigEndian.{bigEndian, bytesOf, part}
 use Rattle.wire_encoding.proofs.Parts.{Bytes}
 use Rattle.wire_encoding.proofs.Numbers.{below, length-bytesOf, read-bytesOf, bytes-read, found}
 use Rattle.path_meta_header.specs.declared.PathMetaHeader.{PathMetaHeader}
-use Rattle.path_meta_header.specs.MetaHeader.{
-  nthField,
-  metaOf,
-  checked,
-  settled,
-  metaRead,
-  readMeta,
-  fieldsFit,
-  wordOf,
-  encoded,
-}
-use Rattle.path_meta_header.proofs.MetaLaws.{fitting, word-below, meta-back, word-back}
+use Rattle.path_meta_header.specs.MetaHeader.{nthField, metaOf, checked, settled, metaRead, readMeta}
+use Rattle.meta_header_encoding.specs.Encoding.{fieldsFit, wordOf, encoded}
+use Rattle.meta_header_encoding.proofs.EncodingLaws.{fitting, word-below, meta-back, word-back}
 
 -- the four bytes of a word spell it
 spelt : (word : ℕ) → word < 2 ^ 32 → bigEndian 4 (bytesOf 4 word) 0 ≡ word
