@@ -6,6 +6,7 @@ use path::dataplane::DataplanePath;
 use path::dataplane::Located;
 use path::dataplane::PathAnswer;
 use path::standard::Part;
+use path_copy::copy_to_slice;
 use path_expiry::Expiry;
 
 // The path whose type stands in word 1.
@@ -163,7 +164,7 @@ fn copy(line: &[u8]) {
     let mut dst_room = words::room();
     let dst_length = words::bytes_at(line, 3, &mut dst_room);
     let dst = &mut dst_room[..dst_length];
-    let answer = path_of(line).copy_to_slice(&room[..length], dst).answer;
+    let answer = copy_to_slice(path_of(line), &room[..length], dst).answer;
     print::answer(answer);
     print::bytes(dst);
 }

@@ -1,6 +1,7 @@
 // The lines of a standard path: segments, hop fields, interfaces in order of travel, and the path of a reply.
 use crate::text;
 use path::dataplane::DataplanePath;
+use path_copy::copy_to_slice;
 use path_error::Answer;
 use path_fields::HopField;
 use path_fields::InfoField;
@@ -133,7 +134,7 @@ fn interfaces(bytes: &[u8], meta_header: PathMetaHeader) {
 
 // Whether the packet can be moved on from where it stands, tried on a copy: 0, or the number of the refusal.
 fn onward(bytes: &[u8], copy: &mut [u8]) {
-    standard().copy_to_slice(bytes, copy);
+    copy_to_slice(standard(), bytes, copy);
     let moved = moves::single_move(1, copy);
     let answer = moved.answer;
     text::name(b"  next move");

@@ -11,11 +11,8 @@ use path_fields::HopField;
 use path_fields::InfoField;
 use path_meta_header::Offset;
 use path_meta_header::PathMetaHeader;
-use wire_encoding::write::put_slice;
 ghost use mathlib.Core.Path.{_≡_};
-ghost use lib.Dec.{eqb};
 ghost use lib.ListN.{length, take};
-ghost use Rattle.wire_encoding.specs.Choice.{pick};
 ghost use Rattle.path_error.specs.declared.Answer.the-variants as answers;
 ghost use Rattle.path_error.specs.declared.PathError.the-variants as errors;
 ghost use Rattle.path.specs.Dataplane as spec;
@@ -146,18 +143,6 @@ impl Located {
     }
 }
 
-// Copies the bytes of a path to a destination of exactly their length.
-fn copy_whole(path: StandardPath, run: &[u8], dst: &mut [u8]) -> PathAnswer
-    ensures { λ r. ⌜ r ≡ pick (eqb (length (now (dst .entry))) (length (now (run .entry)))) (record { answer = answers.Accepted; path = path }) (spec.answerRefused errors.InadequateBufferSize) ⌝ }
-    ensures { λ _. ⌜ now (dst .exit) ≡ pick (eqb (length (now (dst .entry))) (length (now (run .entry)))) (now (run .entry)) (now (dst .entry)) ⌝ }
-{
-    if dst.len() == run.len() {
-        put_slice(dst, 0, run);
-        return PathAnswer::accepted(path);
-    }
-    PathAnswer::refused(PathError::InadequateBufferSize)
-}
-
 impl DataplanePath {
     pub const EMPTY: u8 = 0;
 
@@ -281,23 +266,5 @@ impl DataplanePath {
         let start = part.start;
         let end = start + part.len;
         &bytes[start..end]
-    }
-
-    // Copies the path to a destination of exactly its length. An empty path disregards its destination.
-    pub fn copy_to_slice(self, bytes: &[u8], dst: &mut [u8]) -> PathAnswer
-        ensures { λ r. ⌜ r ≡ spec.copyAnswer (self .«path_type») (now (bytes .entry)) (length (now (dst .entry))) ⌝ }
-        ensures { λ _. ⌜ now (dst .exit) ≡ spec.copied (self .«path_type») (now (bytes .entry)) (now (dst .entry)) ⌝ }
-    {
-        let read = self.decode(bytes);
-        let answer = read.answer;
-        match answer {
-            Decoded::Accepted => {
-                if self.path_type == DataplanePath::EMPTY {
-                    return PathAnswer::accepted(read.path);
-                }
-                copy_whole(read.path, &bytes[..read.length], dst)
-            }
-            Decoded::Refused(error) => PathAnswer::not_read(error),
-        }
     }
 }

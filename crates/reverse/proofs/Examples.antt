@@ -11,6 +11,7 @@ use Rattle.meta_header_reversal.specs.Reversal as reversal
 use Rattle.meta_header_encoding.specs.Encoding as encoding
 use Rattle.path.specs.Standard as standard
 use Rattle.path.specs.Dataplane as dataplane
+use Rattle.path_copy.specs.Copy as copy
 use Rattle.reverse.specs.Reverse as reverse
 
 unfoldable pub one-segment : List ℕ
@@ -39,6 +40,6 @@ unfolding one-segment two-segments three-segments one-segment-reversed two-segme
     meta.nthField meta.metaOf meta.infoFieldsCount meta.hopFieldsCount meta.segmentOf meta.pathLength meta.lengthsValid meta.infoValid meta.hopValid
     meta.firstRefusal meta.checked meta.settled meta.metaRead meta.readMeta encoding.wordOf reversal.atStart reversal.reversedLengths reversal.reversedMeta
     standard.zeroPath standard.pathRefused standard.complete standard.readPath
-    dataplane.unread dataplane.standardRead dataplane.readDataplane dataplane.destination dataplane.destinationIn dataplane.copiedBy
+    dataplane.unread dataplane.standardRead dataplane.readDataplane copy.destination copy.destinationIn copy.copiedBy
     reverse.reversedRecords reverse.flipped reverse.same reverse.reversedPath reverse.reversedRun reverse.reversed
 examples = (refl, (refl, (refl, (refl, refl))))

@@ -29,17 +29,8 @@ use Rattle.meta_header_encoding.proofs.EncodingLaws.{fitting, word-below, meta-
 use Rattle.path.specs.declared.standard.PathRead.{PathRead}
 use Rattle.path.specs.declared.dataplane.PathAnswer.{PathAnswer}
 use Rattle.path.specs.Standard.{readPath}
-use Rattle.path.specs.Dataplane.{
-  standardRead,
-  readDataplane,
-  answerRefused,
-  answered,
-  destination,
-  destinationIn,
-  copyAnswer,
-  copiedBy,
-  copied,
-}
+use Rattle.path.specs.Dataplane.{standardRead, readDataplane, answerRefused, answered}
+use Rattle.path_copy.specs.Copy.{destination, destinationIn, copyAnswer, copiedBy, copied}
 use Rattle.path.proofs.Reading.{Readable}
 use Rattle.reverse.specs.Reverse.{
   reversedRecords,

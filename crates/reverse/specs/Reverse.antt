@@ -15,7 +15,8 @@ use Rattle.meta_header_encoding.specs.Encoding.{fieldsFit, wordOf}
 use Rattle.path_meta_header.specs.declared.PathMetaHeader.{PathMetaHeader}
 use Rattle.path.specs.declared.standard.StandardPath.{StandardPath}
 use Rattle.path.specs.declared.dataplane.PathAnswer.{PathAnswer}
-use Rattle.path.specs.Dataplane.{readDataplane, answered, destinationIn, copiedBy}
+use Rattle.path.specs.Dataplane.{readDataplane, answered}
+use Rattle.path_copy.specs.Copy.{destinationIn, copiedBy}
 
 -- f of each of the first n records of k bytes, the last record first
 unfoldable pub reversedRecords : (List ℕ → List ℕ) → ℕ → ℕ → List ℕ → List ℕ

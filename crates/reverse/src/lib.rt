@@ -3,6 +3,7 @@ use meta_header_encoding::Word;
 use path::dataplane::DataplanePath;
 use path::dataplane::PathAnswer;
 use path::standard::StandardPath;
+use path_copy::copy_to_slice;
 use path_error::Decoded;
 use path_error::PathError;
 use path_fields::HopField;
@@ -179,5 +180,5 @@ pub fn reverse_to_slice(path_type: u8, bytes: &[u8], dst: &mut [u8]) -> PathAnsw
     if path_type == DataplanePath::SCION {
         return reverse_standard(bytes, dst);
     }
-    DataplanePath::new(path_type).copy_to_slice(bytes, dst)
+    copy_to_slice(DataplanePath::new(path_type), bytes, dst)
 }

@@ -22,6 +22,7 @@ use Rattle.path_error.specs.declared.Answer.{Answer}
 use Rattle.path_error.specs.declared.Answer.the-variants.{Accepted}
 use Rattle.path.specs.Standard as standard
 use Rattle.path.specs.Dataplane as dataplane
+use Rattle.path_copy.specs.Copy as copy
 use Rattle.moves.specs.Moves as moves
 use Rattle.reverse.specs.Reverse as reverse
 use Rattle.round_trip.specs.RoundTrip as round
@@ -105,7 +106,7 @@ unfolding bigEndian bytesOf numberAt room withBit meta.nthField meta.metaOf meta
     meta.segmentOf meta.pathLength meta.lengthsValid meta.hopValid meta.infoValid meta.firstRefusal meta.checked meta.settled
     meta.metaRead meta.readMeta encoding.wordOf reversal.atStart reversal.reversedLengths reversal.reversedMeta standard.complete
     standard.readPath dataplane.standardRead dataplane.readDataplane dataplane.standardAnswer dataplane.standardOf
-    dataplane.carriedOut dataplane.onStandard dataplane.answered dataplane.destination dataplane.destinationIn dataplane.copiedBy
+    dataplane.carriedOut dataplane.onStandard dataplane.answered copy.destination copy.destinationIn copy.copiedBy
     moves.ownerOf moves.spared moves.changeInside moves.positionOf moves.moveFrom moves.applied moves.moveBytes moves.peerings
     moves.peeringAllowed moves.stateOf moves.movableOf moves.onMovable moves.notLast moves.moved moves.walkMoves moves.walkCount
     moves.walked reverse.reversedRecords reverse.flipped reverse.reversedPath reverse.reversedRun reverse.reversed round.headerOf
@@ -136,7 +137,7 @@ unfolding bigEndian bytesOf numberAt room withBit meta.nthField meta.metaOf meta
     meta.segmentOf meta.pathLength meta.lengthsValid meta.hopValid meta.infoValid meta.firstRefusal meta.checked meta.settled
     meta.metaRead meta.readMeta encoding.wordOf reversal.atStart reversal.reversedLengths reversal.reversedMeta standard.complete
     standard.readPath dataplane.standardRead dataplane.readDataplane dataplane.standardAnswer dataplane.standardOf
-    dataplane.carriedOut dataplane.onStandard dataplane.answered dataplane.destination dataplane.destinationIn dataplane.copiedBy
+    dataplane.carriedOut dataplane.onStandard dataplane.answered copy.destination copy.destinationIn copy.copiedBy
     moves.ownerOf moves.spared moves.changeInside moves.positionOf moves.moveFrom moves.applied moves.moveBytes moves.peerings
     moves.peeringAllowed moves.stateOf moves.movableOf moves.onMovable moves.notLast moves.moved moves.walkMoves moves.walkCount
     moves.walked reverse.reversedRecords reverse.flipped reverse.reversedPath reverse.reversedRun reverse.reversed round.headerOf moves.atPosition moves.movedMeta moves.moveAnswer moves.noWalk moves.walkAnswer

@@ -3,6 +3,7 @@ use moves::single_move;
 use moves::walk;
 use path::dataplane::DataplanePath;
 use path::standard::Part;
+use path_copy::copy_to_slice;
 use path_fields::HopField;
 use path_fields::InfoField;
 use reverse::reverse_to_slice;
@@ -27,6 +28,7 @@ ghost use mathlib.Core.Path.{_≡_};
 ghost use Prim.Native.Nat.{_+_, _≤_};
 ghost use lib.ListN.{length};
 ghost use Rattle.path.specs.Dataplane as dataplane;
+ghost use Rattle.path_copy.specs.Copy as copy;
 ghost use Rattle.path_expiry.specs.Expiry as expiry;
 ghost use Rattle.path_interfaces.specs.Interfaces as interfaces;
 ghost use Rattle.reverse.specs.Reverse as reversal;
@@ -250,10 +252,10 @@ pub extern "C" fn scion_walk(path_type: u8, bytes: &mut [u8], limit: usize) -> S
 // Copies the path to a destination of exactly its length. An empty path disregards its destination.
 #[no_mangle]
 pub extern "C" fn scion_copy_path(path_type: u8, bytes: &[u8], dst: &mut [u8]) -> ScionPathAnswer
-    ensures { λ r. ⌜ r ≡ spec.pathAnswerOut (dataplane.copyAnswer «path_type» (now (bytes .entry)) (length (now (dst .entry)))) ⌝ }
-    ensures { λ _. ⌜ now (dst .exit) ≡ dataplane.copied «path_type» (now (bytes .entry)) (now (dst .entry)) ⌝ }
+    ensures { λ r. ⌜ r ≡ spec.pathAnswerOut (copy.copyAnswer «path_type» (now (bytes .entry)) (length (now (dst .entry)))) ⌝ }
+    ensures { λ _. ⌜ now (dst .exit) ≡ copy.copied «path_type» (now (bytes .entry)) (now (dst .entry)) ⌝ }
 {
-    path_answer_out(DataplanePath::new(path_type).copy_to_slice(bytes, dst))
+    path_answer_out(copy_to_slice(DataplanePath::new(path_type), bytes, dst))
 }
 
 // Writes the reply's path to a destination of exactly the path's length. An empty path disregards its destination.

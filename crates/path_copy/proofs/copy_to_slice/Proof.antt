@@ -10,12 +10,13 @@ use lib.Dec.{eqb}
 use Rattle.wire_encoding.specs.Choice.{pick}
 use Rattle.path_error.specs.declared.Answer.the-variants.{Accepted, Refused}
 use Rattle.path_error.specs.declared.PathError.the-variants.{InadequateBufferSize}
 use Rattle.path.specs.declared.standard.StandardPath.{StandardPath}
 use Rattle.path.specs.Dataplane as spec
+use Rattle.path_copy.specs.Copy as copy
 use Rattle.path.proofs.Reading.{length-inside}
 use borrow.Author.Needs.{needs}
-use Rattle.path.proofs.dataplane.DataplanePath.copy_to_slice.Statement.{statement}
-use Rattle.path.proofs.dataplane.DataplanePath.copy_to_slice.Tie as tie
+use Rattle.path_copy.proofs.copy_to_slice.Statement.{statement}
+use Rattle.path_copy.proofs.copy_to_slice.Tie as tie
 
 decode-requires : tie.Need-decode-requires
 decode-requires c κs = search needs
@@ -27,7 +28,7 @@ accepted-requires : tie.Need-accepted-requires
 accepted-requires c κs = search needs
 
 returns : tie.Need-returns
-unfolding spec.copyAnswer spec.answered spec.copied spec.copiedBy spec.destinationIn spec.destination
+unfolding copy.copyAnswer spec.answered copy.copied copy.copiedBy copy.destinationIn copy.destination
 returns c =
     rw (← c .before .before .before .before .before .decode .ensures, c .before .before .before .enum-told .given .1, eq-eqb _ _ (c .before .if1 .taken))
     (rw (eq-eqb _ _ (c .before .if1 .taken)) (c .accepted .ensures, refl))
@@ -35,14 +36,14 @@ returns c =
 slice-aggregate-copy-whole : tie.Need-slice-aggregate-copy-whole
 slice-aggregate-copy-whole c =
     let a = c .before .before .before .before .before .before .before .before .args in
-    sym (length-take-le _ _ (rw (← c .before .before .before .before .before .decode .ensures) at (length-inside (a .bytes .now) (a .self .«path_type»))))
+    sym (length-take-le _ _ (rw (← c .before .before .before .before .before .decode .ensures) at (length-inside (a .bytes .now) (a .path .«path_type»))))
 
 -- a path that isn't empty: its bytes where the size is right
 by-size : (fits : Bool) (type : ℕ) (path : StandardPath) (run dst : List ℕ) → eqb type 0 ≡ false
     → let size = pick fits Accepted (Refused InadequateBufferSize) in
     (pick fits (record { answer = Accepted; path = path }) (spec.answerRefused InadequateBufferSize) ≡ spec.answered size path)
-    × (pick fits run dst ≡ spec.copiedBy type size run dst)
-unfolding spec.answered spec.copiedBy
+    × (pick fits run dst ≡ copy.copiedBy type size run dst)
+unfolding spec.answered copy.copiedBy
 by-size true type path run dst other = (refl, rw (other))
 by-size false type path run dst other = (refl, refl)
 
@@ -59,13 +60,13 @@ same-length : tie.Need-same-length
 same-length c = search needs
 
 returns-2 : tie.Need-returns-2
-unfolding spec.copyAnswer spec.copied spec.destinationIn spec.destination
+unfolding copy.copyAnswer copy.copied copy.destinationIn copy.destination
 returns-2 c =
     let a = c .before .before .before .before .before .before .before .before .before .before .before .before .args in
     let read = c .before .before .before .before .before .before .before .before .before .decode in
     let n = read .result .length in
     let run = take n (a .bytes .now) in
-    let whole : length run ≡ n = length-take-le _ _ (rw (← read .ensures) at (length-inside (a .bytes .now) (a .self .«path_type»))) in
+    let whole : length run ≡ n = length-take-le _ _ (rw (← read .ensures) at (length-inside (a .bytes .now) (a .path .«path_type»))) in
     let other = ne-eqb _ _ (c .before .before .before .before .before .if1 .left) in
     let copied = rw (whole) at (c .before .before .copy-whole .ensures) in
     let wanted = by-size (eqb (length (a .dst .now)) n) _ (read .result .path) run (a .dst .now) other in
@@ -73,7 +74,7 @@ returns-2 c =
     (copied .0 ∙ wanted .0, copied .1 ∙ wanted .1)
 
 returns-3 : tie.Need-returns-3
-unfolding spec.copyAnswer spec.answered spec.copied spec.copiedBy spec.destinationIn spec.destination
+unfolding copy.copyAnswer spec.answered copy.copied copy.copiedBy copy.destinationIn copy.destination
 returns-3 c = rw (← c .before .before .before .before .decode .ensures, c .before .before .answer .given .1) (c .not-read .ensures, refl)
 
 pub copy-to-slice-spec : {M : Type 1} → statement M

@@ -3,8 +3,8 @@ use mathlib.Core.Path.{refl, sym, _∙_}
 use borrow.Author.Tests.{eq-eqb, ne-eqb}
 use Rattle.wire_encoding.proofs.Writes.{placed-whole}
 use borrow.Author.Needs.{needs}
-use Rattle.path.proofs.dataplane.copy_whole.Statement.{statement}
-use Rattle.path.proofs.dataplane.copy_whole.Tie as tie
+use Rattle.path_copy.proofs.copy_whole.Statement.{statement}
+use Rattle.path_copy.proofs.copy_whole.Tie as tie
 
 put-slice-requires : tie.Need-put-slice-requires
 put-slice-requires c κs = search needs
