@@ -11,6 +11,7 @@ use Rattle.path.specs.Standard as standard
 use Rattle.path.specs.Segment.{infoStart}
 use Rattle.path.specs.Dataplane as dataplane
 use Rattle.moves.specs.Moves as moves
+use Rattle.move_rules.specs.Rules as rules
 
 -- one segment of two hop fields, accumulator 1111, first code A0 0B, second 0C D0; in construction direction and against it
 unfoldable pub along : List ℕ
@@ -52,8 +53,8 @@ unfolding along against bigEndian bytesOf numberAt room
     standard.zeroPath standard.pathRefused standard.complete standard.readPath
     dataplane.unread dataplane.standardRead dataplane.readDataplane dataplane.answerRefused dataplane.standardAnswer dataplane.standardOf
     dataplane.carriedOut dataplane.onStandard dataplane.answered
-    moves.ownerOf moves.spared moves.changeInside moves.positionOf moves.moveFrom moves.atPosition moves.applied moves.movedMeta moves.moveBytes
-    moves.peerings moves.peeringAllowed moves.stateOf moves.movableOf moves.onMovable moves.notLast moves.moved
+    rules.ownerOf rules.spared moves.changeInside moves.positionOf moves.moveFrom moves.atPosition moves.applied moves.movedMeta moves.moveBytes
+    rules.peerings rules.peeringAllowed rules.stateOf rules.movableOf rules.onMovable moves.notLast moves.moved
 first-bytes = (refl, refl)
 
 pub accumulators-met : (map (met peered) steps ≡ 0x1111 ∷ 0xB01D ∷ 0xB01D ∷ 0x2222 ∷ 0x2222 ∷ 0x862D ∷ [])
@@ -65,8 +66,8 @@ unfolding peered peeredOtherWay unpeered met steps bigEndian bytesOf numberAt ro
     standard.zeroPath standard.pathRefused standard.complete standard.readPath
     dataplane.unread dataplane.standardRead dataplane.readDataplane dataplane.answerRefused dataplane.standardAnswer dataplane.standardOf
     dataplane.carriedOut dataplane.onStandard dataplane.answered
-    moves.ownerOf moves.spared moves.changeInside moves.positionOf moves.moveFrom moves.atPosition moves.applied moves.movedMeta moves.moveBytes
-    moves.peerings moves.peeringAllowed moves.stateOf moves.movableOf moves.onMovable moves.notLast moves.moved
+    rules.ownerOf rules.spared moves.changeInside moves.positionOf moves.moveFrom moves.atPosition moves.applied moves.movedMeta moves.moveBytes
+    rules.peerings rules.peeringAllowed rules.stateOf rules.movableOf rules.onMovable moves.notLast moves.moved
     moves.walkMoves moves.walkCount moves.walked
 accumulators-met = (refl, (refl, refl))
 
@@ -78,7 +79,7 @@ unfolding peered reported bigEndian bytesOf numberAt room
     standard.zeroPath standard.pathRefused standard.complete standard.readPath
     dataplane.unread dataplane.standardRead dataplane.readDataplane dataplane.answerRefused dataplane.standardAnswer dataplane.standardOf
     dataplane.carriedOut dataplane.onStandard dataplane.answered
-    moves.ownerOf moves.spared moves.changeInside moves.positionOf moves.moveFrom moves.atPosition moves.applied moves.movedMeta moves.moveBytes
-    moves.peerings moves.peeringAllowed moves.stateOf moves.movableOf moves.onMovable moves.notLast moves.moved
+    rules.ownerOf rules.spared moves.changeInside moves.positionOf moves.moveFrom moves.atPosition moves.applied moves.movedMeta moves.moveBytes
+    rules.peerings rules.peeringAllowed rules.stateOf rules.movableOf rules.onMovable moves.notLast moves.moved
     moves.walkMoves moves.walkCount moves.walked moves.noWalk moves.walkAnswer
 walks-reported = refl

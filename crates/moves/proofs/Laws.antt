@@ -1,125 +1,35 @@
--- What is known of a path that can be moved, and that a move leaves such a path.
+-- A move leaves a path that can be moved.
 -- Assumes nothing.
 use Prim.Native.Nat.{ℕ, zero, suc, _+_, _*_, _/_, _%_, _^_, _≤_, _<_}
-use mathlib.Core.Path.{_≡_, refl, sym, ap, _∙_, subst}
+use mathlib.Core.Path.{_≡_, refl, ap, _∙_}
 use mathlib.Core.Bool.{Bool, true, false}
 use mathlib.Core.List.{List}
 use native.Mathlib.Nat.{add-zero, add-suc}
 use native.Mathlib.Omega.{arith}
-use lib.Dec.{ltb, eqb}
+use lib.Dec.{eqb}
 use lib.Bits.{bitXor}
 use lib.ListN.{length, getD, set, length-set}
 use lib.Seq.{length-sets, getD-set-same, getD-set-other}
-use borrow.Author.Tests.{lt-ltb, le-ltb, le-leb, eq-eqb, ltb-false, eqb-true}
+use borrow.Author.Tests.{lt-ltb, eq-eqb}
 use Rattle.wire_encoding.specs.Choice.{pick}
-use Rattle.wire_encoding.specs.BigEndian.{bigEndian, bytesOf, placed, numberAt, room}
+use Rattle.wire_encoding.specs.BigEndian.{bigEndian, bytesOf, placed}
 use Rattle.wire_encoding.proofs.Parts.{Bytes}
 use Rattle.wire_encoding.proofs.Numbers.{length-bytesOf}
 use Rattle.wire_encoding.proofs.Writes.{placed-is}
 use Rattle.path_meta_header.specs.MetaHeader as meta
 use Rattle.path_meta_header.specs.declared.PathMetaHeader.{PathMetaHeader}
-use Rattle.path_error.specs.declared.Decoded.{Decoded}
-use Rattle.path_error.specs.declared.Decoded.the-variants as decoded
 use Rattle.path_error.specs.declared.Answer.{Answer}
 use Rattle.path_error.specs.declared.Answer.the-variants.{Accepted, Refused}
-use Rattle.path_error.specs.declared.PathError.{PathError}
-use Rattle.path_error.specs.declared.PathError.the-variants.{TooManyHopFields, PeeringNotOnBoth}
-use Rattle.path.specs.Standard.{complete, readPath}
 use Rattle.path.specs.Segment.{infoStart}
-use Rattle.path.specs.Dataplane.{standardRead, readDataplane, answerRefused, standardAnswer, standardOf, carriedOut, onStandard, answered}
-use Rattle.path.specs.declared.standard.StandardPath.{StandardPath}
-use Rattle.path.specs.declared.dataplane.PathAnswer.{PathAnswer}
-use Rattle.path.proofs.Reading.{Sound, Readable, standard-readable}
+use Rattle.path.specs.Dataplane.{carriedOut}
+use Rattle.path.proofs.Reading.{Sound}
 use Rattle.path.proofs.Links.{segment-below}
+use Rattle.move_rules.proofs.Known.{Known, movable-known}
 use Rattle.moves.specs.declared.Position.{Position}
 use Rattle.moves.specs.declared.Moved.{Moved}
 use Rattle.moves.specs.Moves as spec
-use Rattle.moves.specs.Moves.{Movable, CanMove}
-
--- no answer is both
-never : {error : PathError} → Refused error ≡ Accepted → ⊥
-never h = let z : _≡_ {A = ℕ} 0 1 = cc in omega arith
-
--- the answer of a call that goes on with this header
-abbrev pub accepted : PathMetaHeader → PathAnswer
-accepted m = record { answer = Accepted; path = record { «meta_header» = m } }
-
--- WHAT IS KNOWN OF A PATH THAT CAN BE MOVED
-
-pub record Known (bytes : List ℕ) (m : PathMetaHeader) : Type 0 where
-  pub path : Readable bytes m
-  pub few : meta.hopFieldsCount m ≤ 64
-  pub peering : spec.peeringAllowed bytes m ≡ true
-
-module _ (bytes : List ℕ) where
-  state-known : (m : PathMetaHeader) → spec.stateOf bytes m ≡ Accepted → (meta.hopFieldsCount m ≤ 64) × (spec.peeringAllowed bytes m ≡ true)
-  unfolding spec.stateOf
-  state-known m h = go (ltb 64 (meta.hopFieldsCount m)) (spec.peeringAllowed bytes m) refl refl h
-    where
-      go : (x y : Bool) → ltb 64 (meta.hopFieldsCount m) ≡ x → spec.peeringAllowed bytes m ≡ y
-          → pick x (Refused TooManyHopFields) (pick y Accepted (Refused PeeringNotOnBoth)) ≡ Accepted → (meta.hopFieldsCount m ≤ 64) × (spec.peeringAllowed bytes m ≡ true)
-      go true y ex ey h = absurd (never h)
-      go false true ex ey h = (ltb-false 64 (meta.hopFieldsCount m) ex, ey)
-      go false false ex ey h = absurd (never h)
-
-  pub known : (type : ℕ) → spec.movableOf type bytes .answer ≡ Accepted → Known bytes (spec.movableOf type bytes .path .«meta_header»)
-  unfolding spec.movableOf onStandard carriedOut answered answerRefused
-  known type h = go (standardOf type bytes .answer) refl h
-    where
-      by : (a : Answer) (path : StandardPath) → Readable bytes (path .«meta_header») → spec.stateOf bytes (path .«meta_header») ≡ a
-          → answered a path .answer ≡ Accepted → Known bytes (answered a path .path .«meta_header»)
-      by Accepted path r e h =
-          let state = state-known (path .«meta_header») e in
-          record { path = r; few = state .0; peering = state .1 }
-      by (Refused error) path r e h = absurd (never h)
-
-      go : (a : Answer) → standardOf type bytes .answer ≡ a
-          → carriedOut a (standardOf type bytes .path) answerRefused (λ path. answered (spec.stateOf bytes (path .«meta_header»)) path) .answer ≡ Accepted
-          → Known bytes
-          (carriedOut a (standardOf type bytes .path) answerRefused (λ path. answered (spec.stateOf bytes (path .«meta_header»)) path) .path .«meta_header»)
-      go Accepted e h = by (spec.stateOf bytes (standardOf type bytes .path .«meta_header»)) (standardOf type bytes .path) (standard-readable bytes type e) refl h
-      go (Refused error) e h = absurd (never h)
-
-  -- its type is 1
-  pub type-one : (type : ℕ) → spec.movableOf type bytes .answer ≡ Accepted → type ≡ 1
-  unfolding spec.movableOf onStandard carriedOut answerRefused standardOf standardAnswer
-  type-one type h = go (readDataplane type bytes .answer) (eqb type 1) refl refl
-    where
-      go : (a : Decoded) (t : Bool) → readDataplane type bytes .answer ≡ a → eqb type 1 ≡ t → type ≡ 1
-      go decoded.Accepted true ea et = eqb-true type 1 et
-      go decoded.Accepted false ea et = absurd (never (rw (ea, et) at h))
-      go (decoded.Refused error) t ea et = absurd (never (rw ea at h))
-
-  -- as a function that called `movable` knows it
-  pub type-known : (type : ℕ) {r : PathAnswer} → r ≡ spec.movableOf type bytes → r .answer ≡ Accepted → type ≡ 1
-  type-known type e h = type-one type (ap (λ (x : PathAnswer). x .answer) (sym e) ∙ h)
-
-  pub goes-on : (type : ℕ) {r : PathAnswer} → r ≡ spec.movableOf type bytes → r .answer ≡ Accepted → Movable bytes (r .path .«meta_header»)
-  goes-on type {r} e h =
-      record { read = sym (rw (type-known type e h) at e) ∙ ap (λ (a : Answer). record { answer = a; path = r .path }) h }
-
-module _ (bytes : List ℕ) (m : PathMetaHeader) where
-  pub movable-known : Movable bytes m → Known bytes m
-  movable-known able =
-      subst (λ (r : PathAnswer). Known bytes (r .path .«meta_header»)) (able .read) (known bytes 1 (ap (λ (r : PathAnswer). r .answer) (able .read)))
-
-  four : meta.pathLength m ≤ length bytes → 4 ≤ length bytes
-  unfolding meta.pathLength
-  four h = omega arith
-
-  -- and the other way round: such a path is read
-  path-read : Readable bytes m → readPath bytes ≡ record { answer = decoded.Accepted; path = record { «meta_header» = m } }
-  unfolding readPath complete meta.readMeta meta.metaRead meta.settled meta.checked meta.firstRefusal meta.infoValid numberAt room
-  path-read r =
-      rw (le-leb 4 (length bytes) (four (r .whole)), ← r .word, r .sound-meta .lengths, lt-ltb _ _ (r .sound-meta .info), r .sound-meta .hop, le-leb _ _ (r .whole))
-
-  pub standard-read : Readable bytes m → standardOf 1 bytes ≡ accepted m
-  unfolding standardOf standardAnswer readDataplane standardRead
-  standard-read r = rw (path-read r)
-
-  pub known-movable : Known bytes m → Movable bytes m
-  unfolding spec.movableOf onStandard carriedOut answered spec.stateOf
-  known-movable k = record { read = rw (standard-read (k .path), le-ltb _ _ (k .few), k .peering) }
+use Rattle.move_rules.specs.Rules as rules
+use Rattle.moves.specs.Moves.{CanMove}
 
 -- WHAT A MOVE KEEPS
 
@@ -200,11 +110,11 @@ module _ (bytes : List ℕ) (k : ℕ) (move : Moved) where
   low-kept =
       rw (header-kept 1 (omega arith) (omega arith), header-kept 2 (omega arith) (omega arith), header-kept 3 (omega arith) (omega arith))
 
-  flags-kept : (j : ℕ) → spec.flagsAt (spec.applied bytes k move) j ≡ spec.flagsAt bytes j
+  flags-kept : (j : ℕ) → rules.flagsAt (spec.applied bytes k move) j ≡ rules.flagsAt bytes j
   flags-kept j = other (infoStart j) (λ e. omega arith) (λ e. omega arith) (λ e. omega arith)
 
-  peerings-kept : (n : ℕ) → spec.peerings (spec.applied bytes k move) n ≡ spec.peerings bytes n
-  unfolding spec.peerings
+  peerings-kept : (n : ℕ) → rules.peerings (spec.applied bytes k move) n ≡ rules.peerings bytes n
+  unfolding rules.peerings
   peerings-kept zero = refl
   peerings-kept (suc n) = rw (peerings-kept n, flags-kept n)
 
@@ -300,8 +210,8 @@ module _ (bytes : List ℕ) (m : PathMetaHeader) (can : CanMove bytes m) where
   unfolding meta.pathLength
   whole-moved = omega (arith, counts-kept, length-moveBytes bytes m, standing .whole)
 
-  peering-moved : spec.peeringAllowed after left ≡ true
-  unfolding spec.moveBytes spec.peeringAllowed
+  peering-moved : rules.peeringAllowed after left ≡ true
+  unfolding spec.moveBytes rules.peeringAllowed
   peering-moved = rw (counts-kept .0, peerings-kept bytes (m .«current_info_field») move (meta.infoFieldsCount m)) (able .peering)
 
   -- so it can be moved
@@ -315,15 +225,15 @@ module _ (bytes : List ℕ) (m : PathMetaHeader) (can : CanMove bytes m) where
 
   -- a single move, of type 1
   pub one-move : spec.moved 1 bytes ≡ after
-  unfolding spec.moved spec.onMovable spec.notLast carriedOut
+  unfolding spec.moved rules.onMovable spec.notLast carriedOut
   one-move = rw (can .movable .read, lt-ltb _ _ (can .before-last))
 
 -- FOR LATER USE
 
 -- no move changes how many bytes there are
 pub length-moved : (type : ℕ) (bytes : List ℕ) → length (spec.moved type bytes) ≡ length bytes
-unfolding spec.moved spec.onMovable carriedOut
-length-moved type bytes = go (spec.movableOf type bytes .answer)
+unfolding spec.moved rules.onMovable carriedOut
+length-moved type bytes = go (rules.movableOf type bytes .answer)
   where
     by : (m : PathMetaHeader) (t : Bool) → length (pick t (spec.moveBytes bytes m) bytes) ≡ length bytes
     by m true = length-moveBytes bytes m
@@ -331,10 +241,10 @@ length-moved type bytes = go (spec.movableOf type bytes .answer)
 
     go : (a : Answer)
         → length
-        (carriedOut a (spec.movableOf type bytes .path) (λ error. bytes)
+        (carriedOut a (rules.movableOf type bytes .path) (λ error. bytes)
         (λ path. pick (spec.notLast (path .«meta_header»)) (spec.moveBytes bytes (path .«meta_header»)) bytes))
         ≡ length bytes
-    go Accepted = let m = spec.movableOf type bytes .path .«meta_header» in by m (spec.notLast m)
+    go Accepted = let m = rules.movableOf type bytes .path .«meta_header» in by m (spec.notLast m)
     go (Refused error) = refl
 
 -- a moves, then b, are a + b moves

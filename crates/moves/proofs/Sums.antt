@@ -18,23 +18,10 @@ use Rattle.path_error.specs.declared.Answer.{Answer}
 use Rattle.path_error.specs.declared.Answer.the-variants.{Accepted, Refused}
 use Rattle.path_error.specs.declared.PathError.{PathError}
 use Rattle.path.specs.Dataplane.{carriedOut}
-use Rattle.moves.specs.Moves.{
-  Movable,
-  CanMove,
-  applied,
-  iterate,
-  moveBytes,
-  moveFrom,
-  moved,
-  movedMeta,
-  movableOf,
-  onMovable,
-  positionOf,
-  walkCount,
-  walkMoves,
-  walked,
-}
-use Rattle.moves.proofs.Laws.{type-one, goes-on, fits, one-move, walk-add}
+use Rattle.moves.specs.Moves.{CanMove, applied, iterate, moveBytes, moveFrom, moved, movedMeta, positionOf, walkCount, walkMoves, walked}
+use Rattle.move_rules.specs.Rules.{Movable, movableOf, onMovable}
+use Rattle.moves.proofs.Laws.{fits, one-move, walk-add}
+use Rattle.move_rules.proofs.Known.{type-one, goes-on}
 use Rattle.moves.proofs.Walks.{Walking, begin, can, next}
 
 -- the walks of a and then of b moves make as many as the walk of a + b

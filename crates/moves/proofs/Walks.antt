@@ -17,17 +17,11 @@ use Rattle.path_error.specs.declared.Answer.the-variants.{Accepted}
 use Rattle.path.specs.Dataplane.{standardOf, carriedOut}
 use Rattle.path.specs.declared.dataplane.PathAnswer.{PathAnswer}
 use Rattle.moves.specs.Moves as spec
-use Rattle.moves.specs.Moves.{Movable, CanMove, iterate}
-use Rattle.moves.proofs.Laws.{
-  accepted,
-  movable-known,
-  known-movable,
-  standard-read,
-  length-moveBytes,
-  counts-kept,
-  moved-known,
-  one-move,
-}
+use Rattle.move_rules.specs.Rules as rules
+use Rattle.moves.specs.Moves.{CanMove, iterate}
+use Rattle.move_rules.specs.Rules.{Movable}
+use Rattle.moves.proofs.Laws.{length-moveBytes, counts-kept, moved-known, one-move}
+use Rattle.move_rules.proofs.Known.{accepted, movable-known, known-movable, standard-read}
 
 -- a sound header's hop pointer is one of the path's
 hop-below : (m : PathMetaHeader) → hopValid m ≡ true → m .«current_hop_field» < hopFieldsCount m
@@ -93,5 +87,5 @@ pub reported : (bytes : List ℕ) (m : PathMetaHeader) (limit : ℕ) → Movable
       arrived = eqb (m .«current_hop_field» + n + 1) (hopFieldsCount m);
     } ≡ spec.walkAnswer 1 bytes limit)
     × (now ≡ spec.walked 1 bytes limit)
-unfolding spec.walkAnswer spec.walked spec.walkCount spec.onMovable carriedOut spec.metaAfter spec.bytesAfter
+unfolding spec.walkAnswer spec.walked spec.walkCount rules.onMovable carriedOut spec.metaAfter spec.bytesAfter
 reported bytes m limit able en em eb = rw (able .read, ← en) (rw em, eb)

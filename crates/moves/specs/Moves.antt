@@ -1,43 +1,28 @@
 -- Moves (the draft's processing at routers, seen from hop field to hop field). Move, walk, owner and spared are document 01's words.
-use Prim.Native.Nat.{ℕ, zero, suc, _+_, _-_, _*_, _/_, _%_, _<_, min}
-use mathlib.Core.Path.{_≡_}
-use mathlib.Core.Bool.{Bool, true, false}
+use Prim.Native.Nat.{ℕ, zero, suc, _+_, _-_, _*_, _<_, min}
+use mathlib.Core.Bool.{Bool, false}
 use mathlib.Core.List.{List}
-use lib.ListN.{getD, set}
+use lib.ListN.{set}
 use lib.Seq.{sets}
 use lib.Dec.{ltb, eqb}
 use lib.Bits.{bitXor}
 use Rattle.wire_encoding.specs.Choice.{pick}
-use Rattle.wire_encoding.specs.Bits.{bitOf}
 use Rattle.wire_encoding.specs.BigEndian.{bigEndian, bytesOf}
-use Rattle.path_meta_header.specs.MetaHeader.{segmentLength, infoFieldsCount, hopFieldsCount, segmentOf}
+use Rattle.path_meta_header.specs.MetaHeader.{segmentLength, hopFieldsCount, segmentOf}
 use Rattle.path_meta_header.specs.declared.PathMetaHeader.{PathMetaHeader}
-use Rattle.path_error.specs.declared.Answer.{Answer}
 use Rattle.path_error.specs.declared.Answer.the-variants.{Accepted, Refused}
 use Rattle.path_error.specs.declared.PathError.{PathError}
-use Rattle.path_error.specs.declared.PathError.the-variants.{TooManyHopFields, PeeringNotOnBoth, AtLastHopField}
+use Rattle.path_error.specs.declared.PathError.the-variants.{AtLastHopField}
 use Rattle.path.specs.Standard.{zeroPath}
 use Rattle.path.specs.Segment.{infoStart, hopStart}
-use Rattle.path.specs.Dataplane.{answerRefused, answered, carriedOut, onStandard, standardOf}
-use Rattle.path.specs.declared.standard.StandardPath.{StandardPath}
+use Rattle.path.specs.Dataplane.{answerRefused, standardOf}
 use Rattle.path.specs.declared.dataplane.PathAnswer.{PathAnswer}
+use Rattle.move_rules.specs.Rules.{ownerOf, spared, flagsAt, onMovable, Movable}
 use Rattle.moves.specs.declared.Position.{Position}
 use Rattle.moves.specs.declared.Moved.{Moved}
 use Rattle.moves.specs.declared.WalkAnswer.{WalkAnswer}
 
 -- ONE MOVE
-
--- the owner of the move from hop field h to h + 1 inside a segment with these flags: h in construction direction, else h + 1
-unfoldable pub ownerOf : ℕ → ℕ → ℕ
-ownerOf flags h = pick (bitOf 0 flags) h (h + 1)
-
--- peering spares the owners s0 − 1 and s0
-unfoldable pub spared : ℕ → ℕ → ℕ → Bool
-spared flags owner s0 = pick (bitOf 1 flags) (pick (eqb (owner + 1) s0) true (eqb owner s0)) false
-
--- the flags of info field k
-abbrev pub flagsAt : List ℕ → ℕ → ℕ
-flagsAt bytes k = getD bytes (infoStart k) 0
 
 -- the first two bytes of hop field j's code
 abbrev pub codeOf : List ℕ → PathMetaHeader → ℕ → ℕ
@@ -85,28 +70,6 @@ unfoldable pub moveBytes : List ℕ → PathMetaHeader → List ℕ
 moveBytes bytes m = applied bytes (m .«current_info_field») (moveFrom bytes m (positionOf m))
 
 -- THE CALLS
-
--- how many of the first k info fields have peering set
-unfoldable pub peerings : List ℕ → ℕ → ℕ
-peerings bytes zero = 0
-peerings bytes (suc k) = peerings bytes k + flagsAt bytes k / 2 % 2
-
--- the state of a path that was read: 13 for more than 64 hop fields; 14 for peering on some info field, unless there are two and both have it
-unfoldable pub peeringAllowed : List ℕ → PathMetaHeader → Bool
-peeringAllowed bytes m =
-    pick (eqb (peerings bytes (infoFieldsCount m)) 0) true
-    (pick (eqb (infoFieldsCount m) 2) (eqb (peerings bytes (infoFieldsCount m)) 2) false)
-
-unfoldable pub stateOf : List ℕ → PathMetaHeader → Answer
-stateOf bytes m =
-    pick (ltb 64 (hopFieldsCount m)) (Refused TooManyHopFields) (pick (peeringAllowed bytes m) Accepted (Refused PeeringNotOnBoth))
-
--- moves and walks: reading, 8 for every type but 1, 13, 14, then the call
-unfoldable pub movableOf : ℕ → List ℕ → PathAnswer
-movableOf type bytes = onStandard type bytes answerRefused (λ path. answered (stateOf bytes (path .«meta_header»)) path)
-
-unfoldable pub onMovable : {R : Type 0} → ℕ → List ℕ → (PathError → R) → (StandardPath → R) → R
-onMovable type bytes refuse call = carriedOut (movableOf type bytes .answer) (movableOf type bytes .path) refuse call
 
 -- the hop pointer is before the last hop field
 unfoldable pub notLast : PathMetaHeader → Bool
@@ -157,10 +120,7 @@ walkAnswer type bytes limit =
 
 -- WHAT THE STEPS INSIDE A CALL ASK
 
--- a path that can be moved stands in the bytes under this header, and it is not at its last hop field
-pub record Movable (bytes : List ℕ) (m : PathMetaHeader) : Type 0 where
-  pub read : movableOf 1 bytes ≡ record { answer = Accepted; path = record { «meta_header» = m } }
-
+-- and it is not at its last hop field
 pub record CanMove (bytes : List ℕ) (m : PathMetaHeader) : Type 0 where
   pub movable : Movable bytes m
   pub before-last : m .«current_hop_field» + 1 < hopFieldsCount m

@@ -1,5 +1,7 @@
 // Moves: how a packet's path goes from hop field to hop field. Move, walk and owner are document 01's words.
-use path::dataplane::DataplanePath;
+use move_rules::is_spared;
+use move_rules::movable;
+use move_rules::owner_of;
 use path::dataplane::PathAnswer;
 use path::standard::StandardPath;
 use path_error::Answer;
@@ -13,9 +15,9 @@ use wire_encoding::write::put_u16;
 ghost use mathlib.Core.Path.{_≡_};
 ghost use Prim.Native.Nat.{_+_, _≤_, _<_};
 ghost use lib.ListN.{length};
-ghost use Rattle.path_meta_header.specs.MetaHeader.{pathLength};
 ghost use Rattle.path.specs.Segment.{infoStart};
 ghost use Rattle.moves.specs.Moves as spec;
+ghost use Rattle.move_rules.specs.Rules as rules;
 
 // The pair of pointers in a path's bytes.
 pub struct Position {
@@ -57,91 +59,14 @@ pub struct Walked {
     pub moves: usize,
 }
 
-// The number of the first `count` info fields that have peering set.
-fn peering_count(bytes: &[u8], count: usize) -> usize
-    requires { ⌜ (infoStart count ≤ length (now bytes)) × (count ≤ 3) ⌝ }
-    ensures { λ r. ⌜ (r ≡ spec.peerings (now (bytes .entry)) count) × (r ≤ count) ⌝ }
-{
-    let mut k: usize = 0;
-    let mut sum: usize = 0;
-    while k < count {
-        let flags = bytes[PathMetaHeader::LENGTH + k * InfoField::LENGTH];
-        sum += wide(flags / InfoField::PEERING_FLAG % 2);
-        k += 1;
-    }
-    sum
-}
-
-// Whether a path that was read can be moved: 13 for too many hop fields, 14 for peering that is not on both of two segments.
-fn state(bytes: &[u8], meta_header: PathMetaHeader) -> Answer
-    requires { ⌜ pathLength «meta_header» ≤ length (now bytes) ⌝ }
-    ensures { λ r. ⌜ r ≡ spec.stateOf (now (bytes .entry)) «meta_header» ⌝ }
-{
-    if 64 < meta_header.hop_fields_count() {
-        return Answer::Refused(PathError::TooManyHopFields);
-    }
-    let count = meta_header.info_fields_count();
-    let peering = peering_count(bytes, count);
-    if peering == 0 {
-        return Answer::Accepted;
-    }
-    if count == 2 {
-        if peering == 2 {
-            return Answer::Accepted;
-        }
-    }
-    Answer::Refused(PathError::PeeringNotOnBoth)
-}
-
-// Reading, 8 for every type but 1, then 13 and 14: where moves and walks begin.
-fn movable(path_type: u8, bytes: &[u8]) -> PathAnswer
-    ensures { λ r. ⌜ r ≡ spec.movableOf «path_type» (now (bytes .entry)) ⌝ }
-{
-    let read = DataplanePath::new(path_type).standard(bytes);
-    let answer = read.answer;
-    match answer {
-        Answer::Accepted => {
-            let found = state(bytes, read.path.meta_header);
-            PathAnswer::answered(found, read.path)
-        }
-        Answer::Refused(error) => PathAnswer::refused(error),
-    }
-}
-
-// The owner of the move from hop field `hop` inside a segment: the hop field whose code the accumulator takes in.
-fn owner_of(flags: u8, hop: usize) -> usize
-    requires { ⌜ hop < 256 ⌝ }
-    ensures { λ r. ⌜ (r ≡ spec.ownerOf flags hop) × (r ≤ hop + 1) ⌝ }
-{
-    if flags % 2 == 1 {
-        return hop;
-    }
-    hop + 1
-}
-
-// Whether peering spares this owner: the last hop field of the first segment, and the first of the second.
-fn is_spared(flags: u8, owner: usize, first_length: usize) -> bool
-    requires { ⌜ owner < 257 ⌝ }
-    ensures { λ r. ⌜ r ≡ spec.spared flags owner «first_length» ⌝ }
-{
-    if flags / InfoField::PEERING_FLAG % 2 == 1 {
-        if owner + 1 == first_length {
-            return true;
-        }
-        return owner == first_length;
-    }
-    false
-}
-
-// What a move inside segment `segment`, from hop field `hop`, changes the accumulator by: the owner's code, or 0.
-fn change_inside(bytes: &[u8], meta_header: PathMetaHeader, segment: usize, hop: usize) -> u16
+// What a move inside segment `segment` changes its accumulator by: the owner's code, or 0.
+fn change_inside(bytes: &[u8], meta_header: PathMetaHeader, segment: usize) -> u16
     requires { ⌜ spec.CanMove (now bytes) «meta_header» ⌝ }
     requires { ⌜ (segment ≡ «meta_header» .«current_info_field») × (segment < 256) ⌝ }
-    requires { ⌜ (hop ≡ «meta_header» .«current_hop_field») × (hop < 256) ⌝ }
-    ensures { λ r. ⌜ r ≡ spec.changeInside (now (bytes .entry)) «meta_header» segment hop ⌝ }
+    ensures { λ r. ⌜ r ≡ spec.changeInside (now (bytes .entry)) «meta_header» segment («meta_header» .«current_hop_field») ⌝ }
 {
     let flags = bytes[PathMetaHeader::LENGTH + segment * InfoField::LENGTH];
-    let owner = owner_of(flags, hop);
+    let owner = owner_of(flags, meta_header.current_hop_field);
     if is_spared(flags, owner, meta_header.segment_length(0)) {
         return 0;
     }
@@ -183,7 +108,7 @@ impl Position {
         }
         Moved {
             position,
-            change: change_inside(bytes, meta_header, segment, hop),
+            change: change_inside(bytes, meta_header, segment),
         }
     }
 }
@@ -229,7 +154,7 @@ fn step(bytes: &mut [u8], meta_header: PathMetaHeader) -> PathMetaHeader
 
 // One move of a path that can be moved, unless it is at its last hop field.
 fn move_on(bytes: &mut [u8], meta_header: PathMetaHeader) -> PathAnswer
-    requires { ⌜ spec.Movable (now bytes) «meta_header» ⌝ }
+    requires { ⌜ rules.Movable (now bytes) «meta_header» ⌝ }
     ensures { λ r. ⌜ r ≡ spec.moveAnswer 1 (now (bytes .entry)) ⌝ }
     ensures { λ _. ⌜ now (bytes .exit) ≡ spec.moved 1 (now (bytes .entry)) ⌝ }
 {
@@ -255,7 +180,7 @@ pub fn single_move(path_type: u8, bytes: &mut [u8]) -> PathAnswer
 
 // Moves until the last hop field or the limit.
 fn steps(bytes: &mut [u8], start: PathMetaHeader, limit: usize) -> Walked
-    requires { ⌜ spec.Movable (now bytes) start ⌝ }
+    requires { ⌜ rules.Movable (now bytes) start ⌝ }
     ensures { λ r. ⌜ r .moves ≡ spec.walkMoves start limit ⌝ }
     ensures { λ r. ⌜ r .«meta_header» ≡ spec.metaAfter (r .moves) (now (bytes .entry)) ⌝ }
     ensures { λ r. ⌜ now (bytes .exit) ≡ spec.bytesAfter (r .moves) (now (bytes .entry)) ⌝ }
@@ -277,7 +202,7 @@ fn steps(bytes: &mut [u8], start: PathMetaHeader, limit: usize) -> Walked
 
 // The walk of a path that can be moved.
 fn walk_on(bytes: &mut [u8], meta_header: PathMetaHeader, limit: usize) -> WalkAnswer
-    requires { ⌜ spec.Movable (now bytes) «meta_header» ⌝ }
+    requires { ⌜ rules.Movable (now bytes) «meta_header» ⌝ }
     ensures { λ r. ⌜ r ≡ spec.walkAnswer 1 (now (bytes .entry)) limit ⌝ }
     ensures { λ _. ⌜ now (bytes .exit) ≡ spec.walked 1 (now (bytes .entry)) limit ⌝ }
 {

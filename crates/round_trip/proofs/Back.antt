@@ -18,7 +18,8 @@ use Rattle.path_meta_header.specs.declared.PathMetaHeader.{PathMetaHeader}
 use Rattle.path_fields.specs.declared.InfoField.{InfoField}
 use Rattle.path.specs.Segment.{infoStart, hopStart}
 use Rattle.path.proofs.Links.{segment-below}
-use Rattle.moves.specs.Moves.{atPosition, changeInside, codeOf, flagsAt, moveBytes, moveFrom, movedMeta, ownerOf, positionOf, spared}
+use Rattle.moves.specs.Moves.{atPosition, changeInside, codeOf, moveBytes, moveFrom, movedMeta, positionOf}
+use Rattle.move_rules.specs.Rules.{flagsAt, ownerOf, spared}
 use Rattle.moves.proofs.Laws.{counts-kept}
 use Rattle.round_trip.proofs.Xor.{xor-back}
 use Rattle.round_trip.proofs.Fields.{Spells, same-path}

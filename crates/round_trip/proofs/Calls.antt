@@ -21,8 +21,9 @@ use Rattle.path.specs.declared.dataplane.PathAnswer.{PathAnswer}
 use Rattle.path.proofs.Reading.{standard-readable}
 use Rattle.reverse.specs.Reverse.{reversedPath, reverseAnswer, reversed}
 use Rattle.reverse.proofs.Laws.{other-size, reversed-whole}
-use Rattle.moves.specs.Moves.{iterate, moveAnswer, moved, notLast, onMovable, walkAnswer, walkCount, walkMoves, walked}
-use Rattle.moves.proofs.Laws.{accepted, known-movable, standard-read}
+use Rattle.moves.specs.Moves.{iterate, moveAnswer, moved, notLast, walkAnswer, walkCount, walkMoves, walked}
+use Rattle.move_rules.specs.Rules.{onMovable}
+use Rattle.move_rules.proofs.Known.{accepted, known-movable, standard-read}
 use Rattle.round_trip.specs.RoundTrip.{headerOf, Begun}
 use Rattle.round_trip.proofs.Mirror.{Path}
 

@@ -24,6 +24,7 @@ use Rattle.path.specs.Standard as standard
 use Rattle.path.specs.Dataplane as dataplane
 use Rattle.path_copy.specs.Copy as copy
 use Rattle.moves.specs.Moves as moves
+use Rattle.move_rules.specs.Rules as rules
 use Rattle.reverse.specs.Reverse as reverse
 use Rattle.round_trip.specs.RoundTrip as round
 use Rattle.round_trip.specs.RoundTrip.{
@@ -95,7 +96,7 @@ by-alone : accumulators ≡ 0x1111 ∷ 0xB01D ∷ 0xB01D ∷ 0x2222 ∷ 0x2222 �
 unfolding bigEndian numberAt room meta.nthField meta.metaOf meta.infoFieldsCount meta.hopFieldsCount meta.segmentOf
     meta.firstHopField meta.pathLength meta.lengthsValid meta.hopValid meta.infoValid meta.firstRefusal meta.checked meta.settled
     meta.metaRead meta.readMeta fields.infoFieldAt standard.complete standard.readPath dataplane.standardRead
-    dataplane.readDataplane dataplane.standardAnswer dataplane.standardOf moves.ownerOf moves.spared moves.changeInside
+    dataplane.readDataplane dataplane.standardAnswer dataplane.standardOf rules.ownerOf rules.spared moves.changeInside
     round.headerOf round.accumulatorAfter round.accumulatorBy accumulators peered info hop hops
 by-alone = refl
 
@@ -107,8 +108,8 @@ unfolding bigEndian bytesOf numberAt room withBit meta.nthField meta.metaOf meta
     meta.metaRead meta.readMeta encoding.wordOf reversal.atStart reversal.reversedLengths reversal.reversedMeta standard.complete
     standard.readPath dataplane.standardRead dataplane.readDataplane dataplane.standardAnswer dataplane.standardOf
     dataplane.carriedOut dataplane.onStandard dataplane.answered copy.destination copy.destinationIn copy.copiedBy
-    moves.ownerOf moves.spared moves.changeInside moves.positionOf moves.moveFrom moves.applied moves.moveBytes moves.peerings
-    moves.peeringAllowed moves.stateOf moves.movableOf moves.onMovable moves.notLast moves.moved moves.walkMoves moves.walkCount
+    rules.ownerOf rules.spared moves.changeInside moves.positionOf moves.moveFrom moves.applied moves.moveBytes rules.peerings
+    rules.peeringAllowed rules.stateOf rules.movableOf rules.onMovable moves.notLast moves.moved moves.walkMoves moves.walkCount
     moves.walked reverse.reversedRecords reverse.flipped reverse.reversedPath reverse.reversedRun reverse.reversed round.headerOf
     round.reply peered info hop hops
 reply-begins = refl
@@ -138,8 +139,8 @@ unfolding bigEndian bytesOf numberAt room withBit meta.nthField meta.metaOf meta
     meta.metaRead meta.readMeta encoding.wordOf reversal.atStart reversal.reversedLengths reversal.reversedMeta standard.complete
     standard.readPath dataplane.standardRead dataplane.readDataplane dataplane.standardAnswer dataplane.standardOf
     dataplane.carriedOut dataplane.onStandard dataplane.answered copy.destination copy.destinationIn copy.copiedBy
-    moves.ownerOf moves.spared moves.changeInside moves.positionOf moves.moveFrom moves.applied moves.moveBytes moves.peerings
-    moves.peeringAllowed moves.stateOf moves.movableOf moves.onMovable moves.notLast moves.moved moves.walkMoves moves.walkCount
+    rules.ownerOf rules.spared moves.changeInside moves.positionOf moves.moveFrom moves.applied moves.moveBytes rules.peerings
+    rules.peeringAllowed rules.stateOf rules.movableOf rules.onMovable moves.notLast moves.moved moves.walkMoves moves.walkCount
     moves.walked reverse.reversedRecords reverse.flipped reverse.reversedPath reverse.reversedRun reverse.reversed round.headerOf moves.atPosition moves.movedMeta moves.moveAnswer moves.noWalk moves.walkAnswer
     reverse.same reverse.reversedRecord reverse.reverseAnswer dataplane.answerRefused
     round.begin round.byEnd round.onTheWay round.onPacket round.onAccepted round.sent round.moved round.walked round.without
@@ -152,7 +153,7 @@ unfolding bigEndian numberAt room meta.nthField meta.metaOf meta.infoFieldsCount
     meta.firstHopField meta.pathLength meta.lengthsValid meta.hopValid meta.infoValid meta.firstRefusal meta.checked meta.settled
     meta.metaRead meta.readMeta fields.infoFieldAt fields.hopFieldAt fields.interfaceOf fields.ingressInterface fields.egressInterface
     standard.complete standard.readPath dataplane.standardRead dataplane.readDataplane dataplane.standardAnswer dataplane.standardOf
-    moves.ownerOf moves.spared moves.changeInside round.headerOf round.accumulatorAfter round.accumulatorBy round.infoOf round.meeting
+    rules.ownerOf rules.spared moves.changeInside round.headerOf round.accumulatorAfter round.accumulatorBy round.infoOf round.meeting
     round.byPath round.exchanged round.byEnd round.meets peered info hop hops
 met-back = refl
 
@@ -181,7 +182,7 @@ asked b =
       answer = dataplane.standardOf 1 b .answer;
       exact = eqb (length b) (meta.pathLength (headerOf b));
       few = leb (hopFields b) 64;
-      peering = moves.peeringAllowed b (headerOf b);
+      peering = rules.peeringAllowed b (headerOf b);
       reserved = headerOf b .reserved;
       info-start = headerOf b .«current_info_field»;
       hop-start = headerOf b .«current_hop_field»;
@@ -228,7 +229,7 @@ all-given : (asked single ≡ given)
 unfolding bigEndian numberAt room meta.nthField meta.metaOf meta.infoFieldsCount meta.hopFieldsCount meta.segmentOf
     meta.pathLength meta.lengthsValid meta.hopValid meta.infoValid meta.firstRefusal meta.checked meta.settled meta.metaRead
     meta.readMeta standard.complete standard.readPath dataplane.standardRead dataplane.readDataplane dataplane.standardAnswer
-    dataplane.standardOf moves.peerings moves.peeringAllowed round.headerOf single double triple peered shortest longest info hop
+    dataplane.standardOf rules.peerings rules.peeringAllowed round.headerOf single double triple peered shortest longest info hop
     hops asked given allBytes
 all-given = (refl, refl, refl, refl, refl, refl)
 

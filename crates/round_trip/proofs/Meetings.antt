@@ -28,7 +28,7 @@ use Rattle.path.specs.Segment.{infoStart, hopStart}
 use Rattle.path.specs.declared.dataplane.PathAnswer.{PathAnswer}
 use Rattle.path.proofs.Links.{segment-below}
 use Rattle.moves.specs.Moves.{atPosition}
-use Rattle.moves.proofs.Laws.{standard-read}
+use Rattle.move_rules.proofs.Known.{standard-read}
 use Rattle.round_trip.specs.RoundTrip.{headerOf, Meeting, infoOf, meeting, met, accumulatorBy, byPath, exchanged}
 use Rattle.round_trip.proofs.Shape.{turnedMeta, mirrorMeta}
 use Rattle.round_trip.proofs.Turned.{turnedInfo}

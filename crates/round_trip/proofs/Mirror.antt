@@ -22,8 +22,8 @@ use Rattle.path_fields.specs.declared.InfoField.{InfoField}
 use Rattle.meta_header_encoding.proofs.EncodingLaws.{Fitting}
 use Rattle.path.specs.Segment.{infoStart, hopStart}
 use Rattle.reverse.specs.Reverse.{reversedPath}
-use Rattle.moves.specs.Moves.{flagsAt, peerings, peeringAllowed}
-use Rattle.moves.proofs.Laws.{Known}
+use Rattle.move_rules.specs.Rules.{flagsAt, peerings, peeringAllowed}
+use Rattle.move_rules.proofs.Known.{Known}
 use Rattle.round_trip.proofs.Fields.{by-lt, Spells, same-path}
 use Rattle.round_trip.proofs.Shape.{
   turnedMeta,

@@ -21,22 +21,11 @@ use Rattle.path_meta_header.specs.declared.PathMetaHeader.{PathMetaHeader}
 use Rattle.path_fields.specs.declared.InfoField.{InfoField}
 use Rattle.path.specs.Segment.{infoStart, hopStart}
 use Rattle.moves.specs.declared.Moved.{Moved}
-use Rattle.moves.specs.Moves.{
-  CanMove,
-  atPosition,
-  applied,
-  changeInside,
-  codeOf,
-  flagsAt,
-  moveBytes,
-  moveFrom,
-  movedMeta,
-  ownerOf,
-  positionOf,
-  spared,
-}
+use Rattle.moves.specs.Moves.{CanMove, atPosition, applied, changeInside, codeOf, moveBytes, moveFrom, movedMeta, positionOf}
+use Rattle.move_rules.specs.Rules.{flagsAt, ownerOf, spared}
 use Rattle.moves.proofs.Sums.{bytes-moved}
-use Rattle.moves.proofs.Laws.{known-movable, counts-kept, length-moveBytes, moved-known}
+use Rattle.moves.proofs.Laws.{counts-kept, length-moveBytes, moved-known}
+use Rattle.move_rules.proofs.Known.{known-movable}
 use Rattle.round_trip.proofs.Mirror.{Path, info-below}
 
 -- an info field whose accumulator was changed

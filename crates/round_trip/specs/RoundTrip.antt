@@ -21,6 +21,7 @@ use Rattle.path.specs.Segment.{infoStart, hopStart}
 use Rattle.path.specs.Dataplane.{standardOf}
 use Rattle.reverse.specs.Reverse as reverse
 use Rattle.moves.specs.Moves as moves
+use Rattle.move_rules.specs.Rules as rules
 
 -- THE ENDS AND THE PACKETS
 
@@ -200,7 +201,7 @@ pub record Begun (b : List ℕ) : Type 0 where
   pub read : standardOf 1 b .answer ≡ Accepted
   pub exact : length b ≡ pathLength (headerOf b)
   pub few : hopFields b ≤ 64
-  pub peering : moves.peeringAllowed b (headerOf b) ≡ true
+  pub peering : rules.peeringAllowed b (headerOf b) ≡ true
   pub unreserved : headerOf b .reserved ≡ 0
   pub info-start : headerOf b .«current_info_field» ≡ 0
   pub hop-start : headerOf b .«current_hop_field» ≡ 0

@@ -9,6 +9,7 @@ use Rattle.path.specs.Dataplane as dataplane
 use Rattle.path_expiry.specs.Expiry as expiry
 use Rattle.path_interfaces.specs.Interfaces as interfaces
 use Rattle.moves.specs.Moves as moves
+use Rattle.move_rules.specs.Rules as rules
 use Rattle.common_header.specs.CommonHeader as common
 use Rattle.packet.specs.Raw as raw
 use Rattle.starred.specs.Table.{reading, splitting, expiring, interfaceOfTwoByTwo, moving, answers, wanted}
@@ -22,7 +23,7 @@ unfolding answers wanted reading splitting expiring interfaceOfTwoByTwo moving b
     expiry.least expiry.hopExpiry expiry.segmentExpiry expiry.pathExpiry
     dataplane.unread dataplane.standardRead dataplane.readDataplane dataplane.answerRefused dataplane.standardAnswer dataplane.standardOf
     dataplane.carriedOut dataplane.onStandard expiry.expiryIn interfaces.interfaceFound interfaces.interfaceIn dataplane.answered
-    moves.ownerOf moves.spared moves.changeInside moves.positionOf moves.moveFrom moves.atPosition moves.applied moves.movedMeta moves.moveBytes
-    moves.peerings moves.peeringAllowed moves.stateOf moves.movableOf moves.onMovable moves.notLast moves.moveAnswer moves.moved
+    rules.ownerOf rules.spared moves.changeInside moves.positionOf moves.moveFrom moves.atPosition moves.applied moves.movedMeta moves.moveBytes
+    rules.peerings rules.peeringAllowed rules.stateOf rules.movableOf rules.onMovable moves.notLast moves.moveAnswer moves.moved
     common.commonRefused common.readCommon raw.packetRefused raw.commonFound raw.readPacket
 starred = refl

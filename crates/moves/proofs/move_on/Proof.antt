@@ -5,7 +5,8 @@ use borrow.Author.Tests.{lt-ltb, le-ltb}
 use native.Mathlib.Omega.{arith}
 use Rattle.path_meta_header.specs.MetaHeader.{hopFieldsCount}
 use Rattle.path.specs.Dataplane.{carriedOut}
-use Rattle.moves.specs.Moves.{moveAnswer, moved, onMovable, notLast}
+use Rattle.moves.specs.Moves.{moveAnswer, moved, notLast}
+use Rattle.move_rules.specs.Rules.{onMovable}
 use borrow.Author.Needs.{needs}
 use Rattle.moves.proofs.move_on.Statement.{statement}
 use Rattle.moves.proofs.move_on.Tie as tie

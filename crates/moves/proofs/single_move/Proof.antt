@@ -1,8 +1,9 @@
 -- `single_move` meets its contract: reading, the type and the state, then the move.
 use mathlib.Core.Path.{refl}
 use Rattle.path.specs.Dataplane.{carriedOut}
-use Rattle.moves.specs.Moves.{moveAnswer, moved, onMovable}
-use Rattle.moves.proofs.Laws.{goes-on, type-known}
+use Rattle.moves.specs.Moves.{moveAnswer, moved}
+use Rattle.move_rules.specs.Rules.{onMovable}
+use Rattle.move_rules.proofs.Known.{goes-on, type-known}
 use borrow.Author.Needs.{needs}
 use Rattle.moves.proofs.single_move.Statement.{statement}
 use Rattle.moves.proofs.single_move.Tie as tie

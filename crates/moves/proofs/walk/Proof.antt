@@ -1,8 +1,9 @@
 -- `walk` meets its contract: reading, the type and the state, then the walk.
 use mathlib.Core.Path.{refl}
 use Rattle.path.specs.Dataplane.{carriedOut}
-use Rattle.moves.specs.Moves.{walkCount, walked, walkAnswer, onMovable}
-use Rattle.moves.proofs.Laws.{goes-on, type-known}
+use Rattle.moves.specs.Moves.{walkCount, walked, walkAnswer}
+use Rattle.move_rules.specs.Rules.{onMovable}
+use Rattle.move_rules.proofs.Known.{goes-on, type-known}
 use borrow.Author.Needs.{needs}
 use Rattle.moves.proofs.walk.Statement.{statement}
 use Rattle.moves.proofs.walk.Tie as tie

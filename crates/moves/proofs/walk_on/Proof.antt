@@ -2,7 +2,7 @@
 use Prim.Native.Nat.{_<_}
 use native.Mathlib.Omega.{arith}
 use Rattle.moves.specs.Moves.{walkMoves}
-use Rattle.moves.proofs.Laws.{movable-known}
+use Rattle.move_rules.proofs.Known.{movable-known}
 use Rattle.moves.proofs.Walks.{reported}
 use borrow.Author.Needs.{needs}
 use Rattle.moves.proofs.walk_on.Statement.{statement}

@@ -41,18 +41,20 @@ change-inside-requires c κs =
     let pre = c .before .before .before .before .before .pre in
     let known = standing-at _ _ (pre .0) (pre .1) in
     let segment = c .before .before .before .wide .ensures in
-    let hop = c .before .before .wide2 .ensures in
-    (pre .0, ((segment .0 ∙ known .1, omega arith), (hop .0 ∙ known .2, omega arith)))
+    (pre .0, (segment .0 ∙ known .1, omega arith))
 
 returns-2 : tie.Need-returns-2
 unfolding moveFrom
 returns-2 c =
+    let pre = c .before .before .before .before .before .before .pre in
+    let hop = c .before .before .before .wide2 .ensures in
     rw (
-      ← c .before .before .before .wide2 .ensures .0,
+      ← hop .0,
       ← c .before .before .segment-of .ensures .0,
       ← c .before .before .before .before .wide .ensures .0,
       eq-eqb _ _ (c .before .if1 .left),
       c .change-inside .ensures,
+      hop .0 ∙ standing-at _ _ (pre .0) (pre .1) .2,
     )
 
 pub moved-spec : {M : Type 1} → statement M

@@ -3,9 +3,9 @@ use borrow.Author.Needs.{needs}
 use borrow.Author.Tests.{lt-ltb, le-ltb, eq-eqb, ne-eqb}
 use native.Mathlib.Omega.{arith}
 use Rattle.path_meta_header.specs.MetaHeader.{pathLength}
-use Rattle.moves.specs.Moves.{stateOf, peeringAllowed}
-use Rattle.moves.proofs.state.Statement.{statement}
-use Rattle.moves.proofs.state.Tie as tie
+use Rattle.move_rules.specs.Rules.{stateOf, peeringAllowed}
+use Rattle.move_rules.proofs.state.Statement.{statement}
+use Rattle.move_rules.proofs.state.Tie as tie
 
 hop-fields-count-requires : tie.Need-hop-fields-count-requires
 hop-fields-count-requires c κs = search needs

@@ -1,10 +1,10 @@
 -- `movable` meets its contract: reading, then the type, then the state; a path that was read is whole.
 use Rattle.path.specs.Dataplane.{onStandard, carriedOut}
 use Rattle.path.proofs.Reading.{goes-on}
-use Rattle.moves.specs.Moves.{movableOf}
+use Rattle.move_rules.specs.Rules.{movableOf}
 use borrow.Author.Needs.{needs}
-use Rattle.moves.proofs.movable.Statement.{statement}
-use Rattle.moves.proofs.movable.Tie as tie
+use Rattle.move_rules.proofs.movable.Statement.{statement}
+use Rattle.move_rules.proofs.movable.Tie as tie
 
 new-requires : tie.Need-new-requires
 new-requires c κs = search needs

@@ -4,18 +4,18 @@ use mathlib.Core.Path.{_≡_, refl}
 use borrow.Author.Needs.{needs}
 use native.Mathlib.Omega.{arith}
 use native.Mathlib.Numerals.{add-one}
-use Rattle.moves.specs.Moves as spec
-use Rattle.moves.proofs.peering_count.Statement.{statement}
-use Rattle.moves.proofs.peering_count.Tie as tie
+use Rattle.move_rules.specs.Rules as rules
+use Rattle.move_rules.proofs.peering_count.Statement.{statement}
+use Rattle.move_rules.proofs.peering_count.Tie as tie
 
 abbrev Inv-loop : tie.InvT-loop
-Inv-loop bytes count k₀ sum₀ k sum = (k ≤ count) × (sum ≡ spec.peerings bytes k) × (sum ≤ k)
+Inv-loop bytes count k₀ sum₀ k sum = (k ≤ count) × (sum ≡ rules.peerings bytes k) × (sum ≤ k)
 
 abbrev μ-loop : tie.MeasureT-loop
 μ-loop bytes count k₀ sum₀ k sum = count - k
 
 loop-holds : tie.Need-loop-holds Inv-loop μ-loop
-unfolding spec.peerings
+unfolding rules.peerings
 loop-holds c = (omega arith, refl, omega arith)
 
 mul-flags : tie.Need-mul-flags Inv-loop μ-loop
@@ -40,7 +40,7 @@ loop-less : tie.Need-loop-less Inv-loop μ-loop
 loop-less c = search needs
 
 loop-again : tie.Need-loop-again Inv-loop μ-loop
-unfolding spec.peerings
+unfolding rules.peerings
 loop-again c =
     let k = c .before .before .before .loop .k in
     (omega arith, rw (add-one k) (omega arith), omega arith)
