@@ -1,9 +1,9 @@
 // A meta header written: as one number, as bytes.
+use bits::bounded::NewU2;
+use bits::bounded::NewU6;
+use bits::bounded::U2;
+use bits::bounded::U6;
 use path_meta_header::PathMetaHeader;
-use wire_encoding::bounded::NewU2;
-use wire_encoding::bounded::NewU6;
-use wire_encoding::bounded::U2;
-use wire_encoding::bounded::U6;
 use wire_encoding::read::wide;
 use wire_encoding::write::put_u32;
 ghost use mathlib.Core.Path.{_≡_};

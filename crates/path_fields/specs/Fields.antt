@@ -5,7 +5,7 @@ use mathlib.Core.List.{List}
 use lib.ListN.{length, getD, replicate}
 use lib.Dec.{eqb}
 use Rattle.wire_encoding.specs.Choice.{pick}
-use Rattle.wire_encoding.specs.Bits.{bitOf, withBit}
+use Rattle.bits.specs.Bits.{bitOf, withBit}
 use Rattle.wire_encoding.specs.BigEndian.{bigEndian, part}
 use Rattle.path_fields.specs.declared.InfoField.{InfoField}
 use Rattle.path_fields.specs.declared.InfoFieldRead.{InfoFieldRead}

@@ -5,7 +5,7 @@ use mathlib.Core.List.{List}
 use lib.ListN.{length, getD, set}
 use lib.Dec.{eqb}
 use Rattle.wire_encoding.specs.Choice.{pick}
-use Rattle.wire_encoding.specs.Bits.{withBit}
+use Rattle.bits.specs.Bits.{withBit}
 use Rattle.wire_encoding.specs.BigEndian.{part}
 use Rattle.path_meta_header.specs.MetaHeader.{infoFieldsCount, segmentOf, interfacesCount, hopFieldOf}
 use Rattle.path_fields.specs.Fields.{infoFieldAt, hopFieldAt, ingressInterface, egressInterface}

@@ -5,7 +5,7 @@ use mathlib.Core.List.{List, [], _∷_}
 use Prim.Native.Nat.{ℕ}
 use lib.ListN.{replicate}
 use Rattle.wire_encoding.specs.BigEndian.{bigEndian, bytesOf, numberAt, room}
-use Rattle.wire_encoding.specs.Bits.{withBit}
+use Rattle.bits.specs.Bits.{withBit}
 use Rattle.path_meta_header.specs.MetaHeader as meta
 use Rattle.meta_header_reversal.specs.Reversal as reversal
 use Rattle.meta_header_encoding.specs.Encoding as encoding

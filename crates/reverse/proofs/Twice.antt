@@ -11,9 +11,9 @@ use lib.ListN.{length, take, drop, length-drop}
 use lib.Seq.{drop-drop, drop-append-add, drop-at, take-at, take-add}
 use lib.Dec.{eqb}
 use borrow.Author.Tests.{ne-eqb, eqb-true}
-use Rattle.wire_encoding.specs.Bits.{bitOf, withBit}
+use Rattle.bits.specs.Bits.{bitOf, withBit}
 use Rattle.wire_encoding.specs.BigEndian.{bytesOf, part}
-use Rattle.wire_encoding.proofs.Flags.{bit-kept}
+use Rattle.bits.proofs.BitLaws.{bit-kept}
 use Rattle.wire_encoding.proofs.Parts.{length-part}
 use Rattle.wire_encoding.proofs.Numbers.{length-bytesOf}
 use Rattle.path_meta_header.specs.MetaHeader.{metaOf, segmentLength, infoFieldsCount, hopFieldsCount, pathLength}

@@ -7,7 +7,7 @@ use mathlib.Core.List.{List, [], _∷_, _++_}
 use lib.ListN.{length, take, drop}
 use lib.Dec.{eqb}
 use Rattle.wire_encoding.specs.Choice.{pick}
-use Rattle.wire_encoding.specs.Bits.{bitOf, withBit}
+use Rattle.bits.specs.Bits.{bitOf, withBit}
 use Rattle.wire_encoding.specs.BigEndian.{bytesOf, part}
 use Rattle.path_meta_header.specs.MetaHeader.{infoFieldsCount, hopFieldsCount, pathLength}
 use Rattle.meta_header_reversal.specs.Reversal.{reversedMeta}

@@ -12,7 +12,7 @@ use lib.ListN.{length, getD, take, replicate}
 use borrow.Author.Tests.{ltb-true, leb-true, eqb-true}
 use Rattle.wire_encoding.specs.Choice.{pick}
 use Rattle.wire_encoding.specs.BigEndian.{bigEndian, bytesOf, numberAt, room}
-use Rattle.wire_encoding.specs.Bits.{withBit}
+use Rattle.bits.specs.Bits.{withBit}
 use Rattle.path_meta_header.specs.MetaHeader as meta
 use Rattle.meta_header_reversal.specs.Reversal as reversal
 use Rattle.meta_header_encoding.specs.Encoding as encoding

@@ -8,7 +8,7 @@ use mathlib.Core.List.{List}
 use native.Mathlib.Omega.{arith}
 use lib.ListN.{length}
 use Rattle.wire_encoding.specs.Choice.{pick}
-use Rattle.wire_encoding.specs.Bits.{bitOf}
+use Rattle.bits.specs.Bits.{bitOf}
 use Rattle.wire_encoding.specs.BigEndian.{part}
 use Rattle.path_meta_header.specs.MetaHeader.{infoFieldsCount, hopFieldsCount, segmentOf}
 use Rattle.path_fields.specs.Fields.{

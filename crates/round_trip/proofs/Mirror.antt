@@ -10,9 +10,9 @@ use lib.Dec.{ltb, eqb}
 use lib.ListN.{length}
 use borrow.Author.Tests.{lt-ltb, eq-eqb, ltb-true, eqb-true, eqb-false}
 use Rattle.wire_encoding.specs.Choice.{pick}
-use Rattle.wire_encoding.specs.Bits.{bitOf, withBit}
+use Rattle.bits.specs.Bits.{bitOf, withBit}
 use Rattle.wire_encoding.specs.BigEndian.{bigEndian, part}
-use Rattle.wire_encoding.proofs.Flags.{bit-kept}
+use Rattle.bits.proofs.BitLaws.{bit-kept}
 use Rattle.wire_encoding.proofs.Parts.{Bytes}
 use Rattle.path_meta_header.specs.MetaHeader.{nthField, metaOf, segmentLength, infoFieldsCount, hopFieldsCount, pathLength, segmentOf, hopValid}
 use Rattle.meta_header_reversal.specs.Reversal.{atStart, reversedLengths, reversedMeta}

@@ -10,9 +10,9 @@ use native.Mathlib.Omega.{arith}
 use lib.ListN.{length, take, drop, length-append, length-drop}
 use lib.Seq.{take-at, take-append-le, drop-append-le, drop-append-add, drop-drop, getD-drop}
 use borrow.Author.Tests.{eq-eqb}
-use Rattle.wire_encoding.specs.Bits.{bitOf, withBit}
+use Rattle.bits.specs.Bits.{bitOf, withBit}
 use Rattle.wire_encoding.specs.BigEndian.{bigEndian, bytesOf, part}
-use Rattle.wire_encoding.proofs.Flags.{bit-kept}
+use Rattle.bits.proofs.BitLaws.{bit-kept}
 use Rattle.wire_encoding.proofs.Parts.{Bytes, length-part}
 use Rattle.wire_encoding.proofs.Numbers.{length-bytesOf, read-bytesOf}
 use Rattle.path_meta_header.specs.MetaHeader.{metaOf, infoFieldsCount, hopFieldsCount, pathLength}

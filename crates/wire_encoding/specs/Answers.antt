@@ -9,14 +9,6 @@ use Rattle.wire_encoding.specs.declared.read.Read64.{Read64}
 use Rattle.wire_encoding.specs.declared.read.Read64.the-variants as read64
 use Rattle.wire_encoding.specs.declared.write.Put.{Put}
 use Rattle.wire_encoding.specs.declared.write.Put.the-variants as put
-use Rattle.wire_encoding.specs.declared.bounded.NewU2.{NewU2}
-use Rattle.wire_encoding.specs.declared.bounded.NewU2.the-variants as u2
-use Rattle.wire_encoding.specs.declared.bounded.NewU4.{NewU4}
-use Rattle.wire_encoding.specs.declared.bounded.NewU4.the-variants as u4
-use Rattle.wire_encoding.specs.declared.bounded.NewU6.{NewU6}
-use Rattle.wire_encoding.specs.declared.bounded.NewU6.the-variants as u6
-use Rattle.wire_encoding.specs.declared.bounded.NewU20.{NewU20}
-use Rattle.wire_encoding.specs.declared.bounded.NewU20.the-variants as u20
 
 abbrev pub answer16 : Read16 → Answer
 answer16 (read16.Value n) = value n
@@ -33,19 +25,3 @@ answer64 read64.Truncated = refused 1
 abbrev pub numberOfPut : Put → ℕ
 numberOfPut put.Done = 0
 numberOfPut put.InadequateBufferSize = 9
-
-abbrev pub answerU2 : NewU2 → Answer
-answerU2 (u2.Value n) = value (n .0)
-answerU2 u2.TooWide = refused 10
-
-abbrev pub answerU4 : NewU4 → Answer
-answerU4 (u4.Value n) = value (n .0)
-answerU4 u4.TooWide = refused 10
-
-abbrev pub answerU6 : NewU6 → Answer
-answerU6 (u6.Value n) = value (n .0)
-answerU6 u6.TooWide = refused 10
-
-abbrev pub answerU20 : NewU20 → Answer
-answerU20 (u20.Value n) = value (n .0)
-answerU20 u20.TooWide = refused 10

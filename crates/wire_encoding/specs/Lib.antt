@@ -1,5 +1,3 @@
 pub mod Choice
 pub mod BigEndian
-pub mod Bits
-pub mod Bounded
 pub mod Answers

@@ -1,5 +1,3 @@
-// Numbers on the wire: big-endian numbers read from and written to bytes, and bounded numbers.
-pub mod bits;
-pub mod bounded;
+// Numbers on the wire: big-endian numbers read from and written to bytes.
 pub mod read;
 pub mod write;

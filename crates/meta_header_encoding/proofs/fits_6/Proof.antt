@@ -1,7 +1,7 @@
 -- `fits_6` meets its contract: what a bounded number of 6 bits answers says it.
 use mathlib.Core.Path.{_∙_, sym, ap}
-use Rattle.wire_encoding.specs.Answers.{answerU6}
-use Rattle.wire_encoding.proofs.Widths.{was-value, was-wide}
+use Rattle.bits.specs.Bounded.{answerU6}
+use Rattle.bits.proofs.Widths.{was-value, was-wide}
 use borrow.Author.Needs.{needs}
 use Rattle.meta_header_encoding.proofs.fits_6.Statement.{statement}
 use Rattle.meta_header_encoding.proofs.fits_6.Tie as tie

@@ -1,7 +1,7 @@
 -- `flip_4` meets its contract: the four bytes are the part, and the mask flips bit 0 of the first.
 use native.Mathlib.Omega.{arith}
 use lib.ListN.{getD}
-use Rattle.wire_encoding.proofs.Flags.{flip-bit}
+use Rattle.bits.proofs.BitLaws.{flip-bit}
 use Rattle.reverse.specs.Reverse.{flipped}
 use Rattle.reverse.proofs.Laws.{four-loads}
 use borrow.Author.Needs.{needs}

@@ -6,8 +6,8 @@ use Prim.Native.Nat.{ℕ, _^_, _<_, _≤_}
 use native.Mathlib.Omega.{arith}
 use lib.Dec.{ltb}
 use borrow.Author.Tests.{lt-ltb, le-ltb}
 use Rattle.wire_encoding.specs.Choice.{pick, value, refused}
-use Rattle.wire_encoding.specs.Bounded.{bounded}
+use Rattle.bits.specs.Bounded.{bounded}
 
 pub fits : (bits n : ℕ) → n < 2 ^ bits → value n ≡ bounded bits n
 unfolding bounded

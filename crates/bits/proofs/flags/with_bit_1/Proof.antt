@@ -1,8 +1,8 @@
 -- `with_bit_1` meets its contract: the laws of the two masks, at bit 1 of 8.
 use native.Mathlib.Omega.{arith}
-use Rattle.wire_encoding.proofs.Flags.{set-bit, clear-bit}
-use Rattle.wire_encoding.proofs.bits.with_bit_1.Statement.{statement}
-use Rattle.wire_encoding.proofs.bits.with_bit_1.Tie as tie
+use Rattle.bits.proofs.BitLaws.{set-bit, clear-bit}
+use Rattle.bits.proofs.flags.with_bit_1.Statement.{statement}
+use Rattle.bits.proofs.flags.with_bit_1.Tie as tie
 
 returns : tie.Need-returns
 returns c = rw (c .if1 .taken) (set-bit 1 (c .before .args .byte))

@@ -1,6 +1,6 @@
 // A single bit of a byte set or cleared, the other seven kept.
 ghost use mathlib.Core.Path.{_≡_};
-ghost use Rattle.wire_encoding.specs.Bits.{withBit};
+ghost use Rattle.bits.specs.Bits.{withBit};
 
 // The byte with bit 0, the lowest, set or cleared.
 pub fn with_bit_0(byte: u8, on: bool) -> u8

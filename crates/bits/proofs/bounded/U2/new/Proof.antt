@@ -1,8 +1,8 @@
 -- `U2::new` meets its contract: the law over the bits, at 2.
 use native.Mathlib.Omega.{arith}
-use Rattle.wire_encoding.proofs.Widths.{fits, too-wide}
-use Rattle.wire_encoding.proofs.bounded.U2.new.Statement.{statement}
-use Rattle.wire_encoding.proofs.bounded.U2.new.Tie as tie
+use Rattle.bits.proofs.Widths.{fits, too-wide}
+use Rattle.bits.proofs.bounded.U2.new.Statement.{statement}
+use Rattle.bits.proofs.bounded.U2.new.Tie as tie
 
 returns : tie.Need-returns
 returns c = fits 2 _ (omega arith)

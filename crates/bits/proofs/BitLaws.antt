@@ -23,8 +23,8 @@ use lib.Bits.{
 use borrow.Author.Tests.{eq-eqb, ne-eqb}
 use lib.Dec.{lit<}
 use lib.Pow.{split, pow-pos}
 use Rattle.wire_encoding.specs.Choice.{pick}
-use Rattle.wire_encoding.specs.Bits.{bitOf, withBit}
+use Rattle.bits.specs.Bits.{bitOf, withBit}
 
 -- how each operation acts on the lowest bit
 or-one : (m : ℕ) → bitOr m 1 ≡ m / 2 * 2 + max (m % 2) 1

@@ -1,7 +1,6 @@
 // Numbers of fewer bits than their type has. A wider value is refused: number 10 of document 01.
 ghost use mathlib.Core.Path.{_≡_};
-ghost use Rattle.wire_encoding.specs.Bounded.{bounded};
-ghost use Rattle.wire_encoding.specs.Answers.{answerU2, answerU4, answerU6, answerU20};
+ghost use Rattle.bits.specs.Bounded.{bounded, answerU2, answerU4, answerU6, answerU20};
 
 // 2 bits: an info pointer.
 pub struct U2(u8);

@@ -1,0 +1,3 @@
+// Numbers of fewer bits than their type has, and single bits of a byte.
+pub mod bounded;
+pub mod flags;
