@@ -15,10 +15,10 @@ use Rattle.wire_encoding.proofs.Parts.{sets-append, set-sets}
 use Rattle.wire_encoding.proofs.Numbers.{length-bytesOf}
 use Rattle.wire_encoding.proofs.Writes.{placed-is}
 use Rattle.address.specs.declared.host.HostAddr.the-variants.{V4, V6, Svc}
-use Rattle.common_header.specs.declared.error.EncodeError.the-variants.{NumberTooWide, InadequateBufferSize}
-use Rattle.common_header.specs.declared.error.Encoded.{Encoded}
-use Rattle.common_header.specs.declared.error.Encoded.the-variants.{Done, Refused}
-use Rattle.common_header.proofs.EncodingLaws.{not-done, host-few}
+use Rattle.common_header_encoding.specs.declared.error.EncodeError.the-variants.{NumberTooWide, InadequateBufferSize}
+use Rattle.common_header_encoding.specs.declared.error.Encoded.{Encoded}
+use Rattle.common_header_encoding.specs.declared.error.Encoded.the-variants.{Done, Refused}
+use Rattle.common_header_encoding.proofs.EncodingLaws.{not-done, host-few}
 use Rattle.address_header.specs.declared.MaybeEncoded.{MaybeEncoded}
 use Rattle.address_header.specs.declared.MaybeEncoded.the-variants as host
 use Rattle.address_header.specs.declared.HostAddress.{HostAddress}

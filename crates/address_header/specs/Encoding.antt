@@ -8,9 +8,9 @@ use lib.Dec.{ltb, eqb}
 use Rattle.wire_encoding.specs.Choice.{pick}
 use Rattle.wire_encoding.specs.BigEndian.{bytesOf}
 use Rattle.address.specs.declared.host.HostAddr.the-variants.{V4, V6, Svc}
-use Rattle.common_header.specs.declared.error.EncodeError.the-variants.{NumberTooWide, InadequateBufferSize}
-use Rattle.common_header.specs.declared.error.Encoded.{Encoded}
-use Rattle.common_header.specs.declared.error.Encoded.the-variants.{Done, Refused}
+use Rattle.common_header_encoding.specs.declared.error.EncodeError.the-variants.{NumberTooWide, InadequateBufferSize}
+use Rattle.common_header_encoding.specs.declared.error.Encoded.{Encoded}
+use Rattle.common_header_encoding.specs.declared.error.Encoded.the-variants.{Done, Refused}
 use Rattle.address_header.specs.declared.MaybeEncoded.{MaybeEncoded}
 use Rattle.address_header.specs.declared.MaybeEncoded.the-variants as host
 use Rattle.address_header.specs.declared.HostAddress.{HostAddress}

@@ -1,20 +1,13 @@
 // The common header of a packet, by value.
-use crate::error::EncodeError;
-use crate::error::Encoded;
 use path_error::DecodeError;
 use path_error::Decoded;
 use wire_encoding::read::u16_or_zero;
 use wire_encoding::read::u32_or_zero;
 use wire_encoding::read::wide;
-use wire_encoding::write::put_slice;
 ghost use mathlib.Core.Path.{_≡_};
-ghost use mathlib.Core.Bool.{true};
 ghost use Prim.Native.Nat.{_≤_, _<_};
 ghost use lib.ListN.{length};
 ghost use Rattle.common_header.specs.CommonHeader as spec;
-ghost use Rattle.common_header.specs.Encoding.{encoded, fieldsFit, commonFits, commonBytes, commonEncoding};
-
-pub mod error;
 
 // Every field, whatever its value. The host kinds are of 4 bits, as the version; the flow is of 20.
 pub struct CommonHeader {
@@ -80,47 +73,6 @@ fn fields(bytes: &[u8]) -> CommonHeader
     }
 }
 
-// Whether each number is of its field's width.
-pub fn fields_fit(version: u8, flow_id: u32, destination_kind: u8, source_kind: u8) -> bool
-    ensures { λ r. ⌜ r ≡ fieldsFit version «flow_id» «destination_kind» «source_kind» ⌝ }
-{
-    if 16 <= version {
-        return false;
-    }
-    if 0x10_0000 <= flow_id {
-        return false;
-    }
-    if 16 <= destination_kind {
-        return false;
-    }
-    source_kind < 16
-}
-
-// The bytes of a common header whose numbers fit.
-fn bytes_of(header: CommonHeader) -> [u8; 12]
-    requires { ⌜ commonFits header ≡ true ⌝ }
-    ensures { λ r. ⌜ r ≡ commonBytes header ⌝ }
-{
-    let flow_id = header.flow_id;
-    let first = (header.version as u32 * 256 + header.traffic_class as u32) * 0x10_0000 + flow_id;
-    let payload_length = header.payload_length;
-    let reserved = header.reserved;
-    [
-        (first / 0x100_0000) as u8,
-        (first / 0x1_0000 % 256) as u8,
-        (first / 0x100 % 256) as u8,
-        (first % 256) as u8,
-        header.next_header,
-        header.header_length_factor,
-        (payload_length / 256) as u8,
-        (payload_length % 256) as u8,
-        header.path_type,
-        header.destination_kind * 16 + header.source_kind,
-        (reserved / 256) as u8,
-        (reserved % 256) as u8,
-    ]
-}
-
 impl CommonHeader {
     pub const LENGTH: usize = 12;
 
@@ -171,42 +123,6 @@ impl CommonHeader {
         ensures { λ r. ⌜ r ≡ self .«payload_length» ⌝ }
     {
         self.payload_length as usize
-    }
-
-    // Whether the header can be written to `size` bytes.
-    fn check(self, size: usize) -> Encoded
-        ensures { λ r. ⌜ r ≡ commonEncoding self size ⌝ }
-    {
-        if !fields_fit(
-            self.version,
-            self.flow_id,
-            self.destination_kind,
-            self.source_kind,
-        ) {
-            return Encoded::Refused(EncodeError::NumberTooWide);
-        }
-        if self.header_length_factor == 0 {
-            return Encoded::Refused(EncodeError::InvalidHeaderLength);
-        }
-        if size == CommonHeader::LENGTH {
-            return Encoded::Done;
-        }
-        Encoded::Refused(EncodeError::InadequateBufferSize)
-    }
-
-    // Writes the header to `dst`, or leaves it as it is.
-    pub fn encode_to(self, dst: &mut [u8]) -> Encoded
-        ensures { λ r. ⌜ r ≡ commonEncoding self (length (now (dst .entry))) ⌝ }
-        ensures { λ _. ⌜ now (dst .exit) ≡ encoded (commonEncoding self (length (now (dst .entry)))) (commonBytes self) (now (dst .entry)) ⌝ }
-    {
-        match self.check(dst.len()) {
-            Encoded::Done => {
-                let raw = bytes_of(self);
-                put_slice(dst, 0, &raw);
-                Encoded::Done
-            }
-            Encoded::Refused(error) => Encoded::Refused(error),
-        }
     }
 
     // Reads the common header that begins `bytes`.

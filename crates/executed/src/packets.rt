@@ -9,7 +9,7 @@ use address_header::AddressHeader;
 use address_header::HostAddress;
 use address_header::MaybeEncoded;
 use common_header::CommonHeader;
-use common_header::error::Encoded;
+use common_header_encoding::error::Encoded;
 use headers::ScionHeaders;
 use packet::raw::ScionPacketRaw;
 ghost use Prim.Native.Nat.{_<_};
@@ -248,7 +248,7 @@ fn put_common(line: &[u8]) {
         reserved: words::u16_at(line, 10),
     };
     let dst = &mut room[..length];
-    encoded(header.encode_to(dst));
+    encoded(common_header_encoding::encode_to(header, dst));
     print::bytes(dst);
 }
 

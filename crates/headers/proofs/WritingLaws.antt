@@ -16,20 +16,20 @@ use Rattle.wire_encoding.proofs.Parts.{sets-append, sets-whole}
 use Rattle.wire_encoding.proofs.Writes.{placed-is}
 use Rattle.common_header.specs.CommonHeader.{hostLength}
 use Rattle.address_header.specs.AddressHeader.{addressLength, lengthOfKinds}
-use Rattle.common_header.specs.Encoding.{encoded, fieldsFit, commonFits, commonBytes, commonEncoding}
+use Rattle.common_header_encoding.specs.Encoding.{encoded, fieldsFit, commonFits, commonBytes, commonEncoding}
 use Rattle.address_header.specs.Encoding.{hostOnWire, onWire, wireLength, wireBytes, addressBytes}
 use Rattle.common_header.specs.declared.CommonHeader.{CommonHeader}
 use Rattle.address_header.specs.declared.AddressHeader.{AddressHeader}
 use Rattle.address_header.specs.declared.WireAddress.{WireAddress}
-use Rattle.common_header.specs.declared.error.Encoded.the-variants.{Done, Refused}
-use Rattle.common_header.specs.declared.error.EncodeError.the-variants.{
+use Rattle.common_header_encoding.specs.declared.error.Encoded.the-variants.{Done, Refused}
+use Rattle.common_header_encoding.specs.declared.error.EncodeError.the-variants.{
   NumberTooWide,
   InvalidHeaderLength,
   HeaderTooLarge,
   PayloadTooLarge,
   InadequateBufferSize,
 }
-use Rattle.common_header.proofs.EncodingLaws.{not-done, length-commonBytes}
+use Rattle.common_header_encoding.proofs.EncodingLaws.{not-done, length-commonBytes}
 use Rattle.address_header.proofs.EncodingLaws.{Sixteen, wire-length, length-addressBytes, sets-apart}
 use Rattle.headers.specs.declared.ScionHeaders.{ScionHeaders}
 use Rattle.headers.specs.Headers.{addedLength, addedBytes, headersLength, commonOf, encoding, headerBytes, Narrow}

@@ -5,13 +5,13 @@ use mathlib.Core.List.{List, [], _++_}
 use lib.Dec.{ltb, eqb}
 use Rattle.wire_encoding.specs.Choice.{pick}
 use Rattle.address_header.specs.AddressHeader.{kindOf, addressLength}
-use Rattle.common_header.specs.Encoding.{commonFits, commonBytes}
+use Rattle.common_header_encoding.specs.Encoding.{commonFits, commonBytes}
 use Rattle.address_header.specs.Encoding.{addressBytes}
 use Rattle.common_header.specs.declared.CommonHeader.{CommonHeader}
 use Rattle.address_header.specs.declared.AddressHeader.{AddressHeader}
-use Rattle.common_header.specs.declared.error.Encoded.{Encoded}
-use Rattle.common_header.specs.declared.error.Encoded.the-variants.{Done, Refused}
-use Rattle.common_header.specs.declared.error.EncodeError.the-variants.{
+use Rattle.common_header_encoding.specs.declared.error.Encoded.{Encoded}
+use Rattle.common_header_encoding.specs.declared.error.Encoded.the-variants.{Done, Refused}
+use Rattle.common_header_encoding.specs.declared.error.EncodeError.the-variants.{
   NumberTooWide,
   InvalidHeaderLength,
   HeaderTooLarge,

@@ -2,18 +2,18 @@
 use address_header::AddressHeader;
 use address_header::WireAddress;
 use common_header::CommonHeader;
-use common_header::error::EncodeError;
-use common_header::error::Encoded;
-use common_header::fields_fit;
+use common_header_encoding::error::EncodeError;
+use common_header_encoding::error::Encoded;
+use common_header_encoding::fields_fit;
 use wire_encoding::write::put_slice;
 ghost use mathlib.Core.Path.{_≡_};
 ghost use Prim.Native.Nat.{_+_, _≤_};
 ghost use lib.Dec.{eqb};
 ghost use lib.ListN.{length};
 ghost use lib.Seq.{sets};
-ghost use Rattle.common_header.specs.Encoding.{encoded, commonEncoding, commonBytes};
+ghost use Rattle.common_header_encoding.specs.Encoding.{encoded, commonEncoding, commonBytes};
 ghost use Rattle.address_header.specs.Encoding.{onWire};
-ghost use Rattle.common_header.specs.declared.error.Encoded.the-variants.{Done};
+ghost use Rattle.common_header_encoding.specs.declared.error.Encoded.the-variants.{Done};
 ghost use Rattle.headers.specs.Headers as spec;
 
 // The headers of a packet but for its path, which stands beside them. The host kinds are the hosts' own. Factor and payload
@@ -55,7 +55,7 @@ fn put_common(header: CommonHeader, dst: &mut [u8])
     requires { ⌜ (commonEncoding header 12 ≡ Done) × (12 ≤ length (now dst)) ⌝ }
     ensures { λ _. ⌜ now (dst .exit) ≡ sets (now (dst .entry)) 0 (commonBytes header) ⌝ }
 {
-    header.encode_to(&mut dst[0..CommonHeader::LENGTH]);
+    common_header_encoding::encode_to(header, &mut dst[0..CommonHeader::LENGTH]);
 }
 
 impl ScionHeaders {

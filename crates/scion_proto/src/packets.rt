@@ -16,7 +16,7 @@ use scion_records::packets::host_out;
 ghost use mathlib.Core.Path.{_≡_};
 ghost use lib.ListN.{length};
 ghost use Rattle.packet.specs.Raw.{readPacket};
-ghost use Rattle.common_header.specs.Encoding.{encoded};
+ghost use Rattle.common_header_encoding.specs.Encoding.{encoded};
 ghost use Rattle.headers.specs.Headers as headers;
 ghost use Rattle.scion_records.specs.Packets as spec;
 

@@ -4,12 +4,12 @@ use lib.Dec.{eqb}
 use Rattle.wire_encoding.specs.Choice.{pick}
 use Rattle.address.specs.declared.host.HostAddr.the-variants.{V4, V6, Svc}
 use Rattle.address_header.specs.AddressHeader.{kindOf, hostOfKind}
-use Rattle.common_header.specs.Encoding.{encodedNumber}
+use Rattle.common_header_encoding.specs.Encoding.{encodedNumber}
 use Rattle.address_header.specs.declared.MaybeEncoded.{MaybeEncoded}
 use Rattle.address_header.specs.declared.MaybeEncoded.the-variants as host
 use Rattle.address_header.specs.declared.HostAddress.{HostAddress}
 use Rattle.address_header.specs.declared.AddressHeader.{AddressHeader}
-use Rattle.common_header.specs.declared.error.Encoded.{Encoded}
+use Rattle.common_header_encoding.specs.declared.error.Encoded.{Encoded}
 use Rattle.packet.specs.declared.raw.ScionPacketRaw.{ScionPacketRaw}
 use Rattle.headers.specs.declared.ScionHeaders as library
 use Rattle.scion_records.specs.Answer.{decodedOut, pathOut, partOut}

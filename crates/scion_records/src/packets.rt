@@ -8,7 +8,7 @@ use address::service::ServiceAddr;
 use address_header::AddressHeader;
 use address_header::HostAddress;
 use address_header::MaybeEncoded;
-use common_header::error::Encoded;
+use common_header_encoding::error::Encoded;
 use headers::ScionHeaders as Headers;
 ghost use mathlib.Core.Path.{_≡_};
 ghost use Rattle.scion_records.specs.Packets as spec;

@@ -12,10 +12,10 @@ use Rattle.wire_encoding.proofs.Parts.{Bytes, bytesFrom, part-bytes}
 use Rattle.wire_encoding.proofs.Numbers.{below, bytes-read, read-bytesOf}
 use Rattle.path_error.specs.declared.Decoded.the-variants.{Accepted}
 use Rattle.common_header.specs.CommonHeader.{commonOf, readCommon, versionOf, factorOf}
-use Rattle.common_header.specs.Encoding.{commonBytes}
+use Rattle.common_header_encoding.specs.Encoding.{commonBytes}
 use Rattle.common_header.specs.declared.CommonHeader.{CommonHeader}
 use Rattle.common_header.specs.declared.CommonHeaderRead.{CommonHeaderRead}
-use Rattle.common_header.proofs.EncodingLaws.{Widths, first-fits}
+use Rattle.common_header_encoding.proofs.EncodingLaws.{Widths, first-fits}
 
 -- READ AS IT WAS WRITTEN
 

@@ -20,7 +20,7 @@ use Rattle.address_header.specs.AddressHeader.{kindOf, hostOfKind, padded, host
 use Rattle.address_header.specs.Encoding.{serviceBytes, rawOf, hostOnWire, wireHostBytes, hostBytes}
 use Rattle.address_header.specs.declared.MaybeEncoded.the-variants.{Decoded, Encoded}
 use Rattle.address_header.specs.declared.HostAddress.{HostAddress}
-use Rattle.common_header.proofs.EncodingLaws.{host-few}
+use Rattle.common_header_encoding.proofs.EncodingLaws.{host-few}
 use Rattle.written_read.specs.WrittenRead.{hostRead, HostsReadBack, PaddingZero}
 
 -- THE TWO FORMS OF A HOST THAT IS READ

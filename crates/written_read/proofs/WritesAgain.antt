@@ -16,10 +16,10 @@ use Rattle.path.specs.Dataplane.{unread, readDataplane}
 use Rattle.path.specs.declared.dataplane.DataplaneRead.{DataplaneRead}
 use Rattle.common_header.specs.CommonHeader.{commonOf, hostLength}
 use Rattle.address_header.specs.AddressHeader.{addressAt, lengthOfKinds}
-use Rattle.common_header.specs.Encoding.{fieldsFit, commonFits}
+use Rattle.common_header_encoding.specs.Encoding.{fieldsFit, commonFits}
 use Rattle.address_header.specs.Encoding.{addressBytes}
-use Rattle.common_header.specs.declared.error.Encoded.the-variants.{Done}
-use Rattle.common_header.proofs.EncodingLaws.{Widths}
+use Rattle.common_header_encoding.specs.declared.error.Encoded.the-variants.{Done}
+use Rattle.common_header_encoding.proofs.EncodingLaws.{Widths}
 use Rattle.packet.proofs.PacketLaws.{header-end-inside}
 use Rattle.headers.specs.Headers as headers
 use Rattle.headers.specs.Headers.{addedBytes, addedLength, headersLength, encoding, headerBytes}

@@ -12,7 +12,7 @@ use Rattle.address_header.specs.AddressHeader.{kindOf, hostAt, addressLength}
 use Rattle.address_header.specs.Encoding.{hostBytes}
 use Rattle.address_header.specs.declared.HostAddress.{HostAddress}
 use Rattle.address_header.specs.declared.AddressHeader.{AddressHeader}
-use Rattle.common_header.specs.declared.error.Encoded.the-variants.{Done}
+use Rattle.common_header_encoding.specs.declared.error.Encoded.the-variants.{Done}
 use Rattle.packet.specs.Raw.{readPacket}
 use Rattle.packet.specs.declared.raw.ScionPacketRaw.{ScionPacketRaw}
 use Rattle.headers.specs.Headers.{addedBytes, headersLength, commonOf, encoding, headerBytes}

@@ -1,7 +1,7 @@
 -- `AddressHeader::encode_to` meets its contract: a header that the tests let through fills the destination.
 use mathlib.Core.Path.{refl, sym, _∙_}
 use Rattle.wire_encoding.proofs.Writes.{placed-whole}
-use Rattle.common_header.specs.Encoding.{encoded}
+use Rattle.common_header_encoding.specs.Encoding.{encoded}
 use Rattle.address_header.specs.Encoding.{onWire, addressBytes, addressEncoding}
 use Rattle.address_header.proofs.EncodingLaws.{Sixteen, wire-length, wire-done, length-addressBytes}
 use borrow.Author.Needs.{needs}

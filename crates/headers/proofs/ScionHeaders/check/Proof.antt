@@ -3,7 +3,7 @@ use mathlib.Core.Path.{_≡_, sym, _∙_}
 use mathlib.Core.Bool.{true}
 use lib.Dec.{eqb}
 use borrow.Author.Tests.{lt-ltb, le-ltb, eq-eqb, ne-eqb, not-true, not-false}
-use Rattle.common_header.specs.Encoding.{commonFits}
+use Rattle.common_header_encoding.specs.Encoding.{commonFits}
 use Rattle.headers.specs.Headers.{encoding, commonOf, headersLength}
 use Rattle.headers.proofs.WritingLaws.{fits-kinds, length-on-wire}
 use borrow.Author.Needs.{needs}

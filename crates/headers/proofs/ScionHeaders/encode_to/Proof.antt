@@ -1,6 +1,6 @@
 -- `ScionHeaders::encode_to` meets its contract: headers that the tests let through are written whole.
 use mathlib.Core.Path.{refl, sym, _∙_}
-use Rattle.common_header.specs.Encoding.{encoded}
+use Rattle.common_header_encoding.specs.Encoding.{encoded}
 use borrow.Author.Needs.{needs}
 use Rattle.headers.proofs.ScionHeaders.encode_to.Statement.{statement}
 use Rattle.headers.proofs.ScionHeaders.encode_to.Tie as tie

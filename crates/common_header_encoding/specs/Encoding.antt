@@ -5,17 +5,17 @@ use mathlib.Core.List.{List, [], _∷_, _++_}
 use lib.Dec.{ltb, eqb}
 use Rattle.wire_encoding.specs.Choice.{pick}
 use Rattle.wire_encoding.specs.BigEndian.{bytesOf}
-use Rattle.common_header.specs.declared.error.EncodeError.{EncodeError}
-use Rattle.common_header.specs.declared.error.EncodeError.the-variants.{
+use Rattle.common_header_encoding.specs.declared.error.EncodeError.{EncodeError}
+use Rattle.common_header_encoding.specs.declared.error.EncodeError.the-variants.{
   NumberTooWide,
   InvalidHeaderLength,
   HeaderTooLarge,
   PayloadTooLarge,
   InadequateBufferSize,
 }
-use Rattle.common_header.specs.declared.error.Encoded.{Encoded}
-use Rattle.common_header.specs.declared.error.Encoded.the-variants.{Done, Refused}
+use Rattle.common_header_encoding.specs.declared.error.Encoded.{Encoded}
+use Rattle.common_header_encoding.specs.declared.error.Encoded.the-variants.{Done, Refused}
 use Rattle.common_header.specs.declared.CommonHeader.{CommonHeader}
 
 -- document 01's numbers
 abbrev pub encodeNumber : EncodeError → ℕ

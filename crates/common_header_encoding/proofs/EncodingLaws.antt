@@ -10,16 +10,16 @@ use lib.Dec.{ltb, eqb}
 use borrow.Author.Tests.{ltb-true, eqb-true}
 use Rattle.wire_encoding.specs.Choice.{pick}
 use Rattle.wire_encoding.specs.BigEndian.{bytesOf}
-use Rattle.common_header.specs.declared.error.EncodeError.{EncodeError}
-use Rattle.common_header.specs.declared.error.EncodeError.the-variants.{
+use Rattle.common_header_encoding.specs.declared.error.EncodeError.{EncodeError}
+use Rattle.common_header_encoding.specs.declared.error.EncodeError.the-variants.{
   NumberTooWide,
   InvalidHeaderLength,
   InadequateBufferSize,
 }
-use Rattle.common_header.specs.declared.error.Encoded.the-variants.{Done, Refused}
+use Rattle.common_header_encoding.specs.declared.error.Encoded.the-variants.{Done, Refused}
 use Rattle.common_header.specs.declared.CommonHeader.{CommonHeader}
 use Rattle.common_header.specs.CommonHeader.{hostLength}
-use Rattle.common_header.specs.Encoding.{fieldsFit, commonFits, commonBytes, commonEncoding}
+use Rattle.common_header_encoding.specs.Encoding.{fieldsFit, commonFits, commonBytes, commonEncoding}
 
 -- no answer is both
 pub not-done : {error : EncodeError} → Refused error ≡ Done → ⊥

@@ -1,6 +1,6 @@
 // Why headers can't be written. Document 01 numbers the refusals; `number` hands its numbers out.
 ghost use mathlib.Core.Path.{_≡_};
-ghost use Rattle.common_header.specs.Encoding.{encodeNumber};
+ghost use Rattle.common_header_encoding.specs.Encoding.{encodeNumber};
 
 pub enum EncodeError {
     // A number wider than its field.

@@ -1,11 +1,11 @@
 -- `bytes_of` meets its contract: each number is written by its digits, and none is wider than its field.
 use Prim.Native.Nat.{_+_, _*_}
 use native.Mathlib.Omega.{arith}
-use Rattle.common_header.specs.Encoding.{commonBytes}
-use Rattle.common_header.proofs.EncodingLaws.{common-widths, first-fits, four-digits, two-digits}
+use Rattle.common_header_encoding.specs.Encoding.{commonBytes}
+use Rattle.common_header_encoding.proofs.EncodingLaws.{common-widths, first-fits, four-digits, two-digits}
 use borrow.Author.Needs.{needs}
-use Rattle.common_header.proofs.bytes_of.Statement.{statement}
-use Rattle.common_header.proofs.bytes_of.Tie as tie
+use Rattle.common_header_encoding.proofs.bytes_of.Statement.{statement}
+use Rattle.common_header_encoding.proofs.bytes_of.Tie as tie
 
 cast-first : tie.Need-cast-first
 cast-first c = search needs

@@ -1,8 +1,8 @@
 -- `fields_fit` meets its contract: the same tests in the same order.
 use borrow.Author.Tests.{lt-ltb, le-ltb}
-use Rattle.common_header.specs.Encoding.{fieldsFit}
-use Rattle.common_header.proofs.fields_fit.Statement.{statement}
-use Rattle.common_header.proofs.fields_fit.Tie as tie
+use Rattle.common_header_encoding.specs.Encoding.{fieldsFit}
+use Rattle.common_header_encoding.proofs.fields_fit.Statement.{statement}
+use Rattle.common_header_encoding.proofs.fields_fit.Tie as tie
 
 returns : tie.Need-returns
 unfolding fieldsFit

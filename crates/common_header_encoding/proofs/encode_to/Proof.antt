@@ -3,12 +3,12 @@ use mathlib.Core.Path.{refl, sym, _∙_}
 use mathlib.Core.Path.{refl, sym, _∙_}
 use mathlib.Core.Path.{refl, sym, _∙_}
 use mathlib.Core.Path.{refl, sym, _∙_}
-use Rattle.common_header.specs.Encoding.{encoded, commonBytes}
-use Rattle.common_header.proofs.EncodingLaws.{common-done, length-commonBytes}
+use Rattle.common_header_encoding.specs.Encoding.{encoded, commonBytes}
+use Rattle.common_header_encoding.proofs.EncodingLaws.{common-done, length-commonBytes}
 use Rattle.wire_encoding.proofs.Writes.{placed-whole}
 use borrow.Author.Needs.{needs}
-use Rattle.common_header.proofs.CommonHeader.encode_to.Statement.{statement}
-use Rattle.common_header.proofs.CommonHeader.encode_to.Tie as tie
+use Rattle.common_header_encoding.proofs.encode_to.Statement.{statement}
+use Rattle.common_header_encoding.proofs.encode_to.Tie as tie
 
 check-requires : tie.Need-check-requires
 check-requires c κs = search needs
@@ -37,8 +37,8 @@ returns c =
     let s = c .before .before .before .before .before in
     let start = s .before .before .before .before .before in
     let done = sym (s .before .before .before .check .ensures) ∙ s .before .enum-told .given .1 in
-    let size = common-done (start .args .self) _ done .1 in
-    rw done (refl, c .before .before .put-slice .ensures .1 ∙ rw (s .bytes-of .ensures) (placed-whole (commonBytes (start .args .self)) (start .args .dst .now) (length-commonBytes (start .args .self) ∙ sym size)))
+    let size = common-done (start .args .header) _ done .1 in
+    rw done (refl, c .before .before .put-slice .ensures .1 ∙ rw (s .bytes-of .ensures) (placed-whole (commonBytes (start .args .header)) (start .args .dst .now) (length-commonBytes (start .args .header) ∙ sym size)))
 
 returns-2 : tie.Need-returns-2
 unfolding encoded

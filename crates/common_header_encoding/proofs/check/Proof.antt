@@ -1,9 +1,9 @@
 -- `CommonHeader::check` meets its contract: the same tests in the same order.
 use borrow.Author.Tests.{eq-eqb, ne-eqb, not-true, not-false}
-use Rattle.common_header.specs.Encoding.{commonEncoding, commonFits}
+use Rattle.common_header_encoding.specs.Encoding.{commonEncoding, commonFits}
 use borrow.Author.Needs.{needs}
-use Rattle.common_header.proofs.CommonHeader.check.Statement.{statement}
-use Rattle.common_header.proofs.CommonHeader.check.Tie as tie
+use Rattle.common_header_encoding.proofs.check.Statement.{statement}
+use Rattle.common_header_encoding.proofs.check.Tie as tie
 
 fields-fit-requires : tie.Need-fields-fit-requires
 fields-fit-requires c κs = search needs
