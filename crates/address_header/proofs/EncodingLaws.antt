@@ -9,11 +9,11 @@ use lib.ListN.{length, take, set, replicate, length-take, length-append}
 use lib.Seq.{sets, length-sets, length-take-le, take-add}
 use lib.Dec.{eqb}
 use borrow.Author.Tests.{eqb-true}
-use Rattle.wire_encoding.specs.Choice.{pick}
-use Rattle.wire_encoding.specs.BigEndian.{bytesOf, part, placed}
-use Rattle.wire_encoding.proofs.Parts.{sets-append, set-sets}
+use Rattle.wire_encoding.specs.Choice.{pick, orZero}
+use Rattle.wire_encoding.specs.BigEndian.{bytesOf, numberAt, part, placed}
+use Rattle.wire_encoding.proofs.Parts.{Bytes, sets-append, set-sets}
 use Rattle.wire_encoding.proofs.Numbers.{length-bytesOf}
-use Rattle.wire_encoding.proofs.Writes.{placed-is}
+use Rattle.wire_encoding.proofs.Writes.{placed-is, number-copied}
 use Rattle.address.specs.declared.host.HostAddr.the-variants.{V4, V6, Svc}
 use Rattle.common_header_encoding.specs.declared.error.EncodeError.the-variants.{NumberTooWide, InadequateBufferSize}
 use Rattle.common_header_encoding.specs.declared.error.Encoded.{Encoded}
@@ -116,22 +116,21 @@ module _ {bytes dst₀ : List ℕ} {at len : ℕ} {dst : List ℕ} {done : ℕ} 
   pub length-written : length dst ≡ length dst₀
   length-written = ap length (w .so-far) ∙ length-sets dst₀ at (take done bytes)
 
-  -- where there is more, there is a whole word
-  pub word-inside : done < len → done + 4 ≤ len
-  word-inside more = omega arith
-
-  pub word-written : done < len → len ≤ length bytes → {next : List ℕ} → next ≡ sets dst (at + done) (part done 4 bytes)
-      → Written bytes dst₀ at len next (done + 4)
-  word-written more few e = record {
-    so-far =
-        e
-        ∙ ap (λ (l : List ℕ). sets l (at + done) (part done 4 bytes)) (w .so-far)
-        ∙ written-after (take done bytes) (part done 4 bytes) dst₀ at done (at + done) (length-take-le done bytes (omega arith)) refl
-        ∙ ap (sets dst₀ at) (sym (take-add done 4 bytes));
-    words = w .words;
-    at-word = omega arith;
-    passed = word-inside more;
-  }
+  -- the next word goes over as a number, and the bytes of a number that was read are the bytes that were read
+  pub word-written : Bytes bytes → done < len → len ≤ length bytes → at + len ≤ length dst₀ → {n : ℕ} → n ≡ orZero (numberAt 4 bytes done)
+      → {next : List ℕ} → next ≡ placed dst (at + done) (bytesOf 4 n) → Written bytes dst₀ at len next (done + 4)
+  word-written b more few room {n} read e =
+      let kept : length dst ≡ length dst₀ = length-written in
+      record {
+        so-far =
+            number-copied 4 bytes dst done (at + done) b (omega arith) (omega arith) read e
+            ∙ ap (λ (l : List ℕ). sets l (at + done) (part done 4 bytes)) (w .so-far)
+            ∙ written-after (take done bytes) (part done 4 bytes) dst₀ at done (at + done) (length-take-le done bytes (omega arith)) refl
+            ∙ ap (sets dst₀ at) (sym (take-add done 4 bytes));
+        words = w .words;
+        at-word = omega arith;
+        passed = omega arith;
+      }
 
 -- two runs apart from each other may be written in either order
 pub sets-apart : (xs ys l : List ℕ) (at to : ℕ) → at + length xs ≤ to → sets (sets l at xs) to ys ≡ sets (sets l to ys) at xs

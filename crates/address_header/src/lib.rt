@@ -9,10 +9,12 @@ use common_header_encoding::error::Encoded;
 use path_error::DecodeError;
 use path_error::Decoded;
 use wire_encoding::read::u16_or_zero;
+use wire_encoding::read::u32_or_zero;
 use wire_encoding::read::u64_or_zero;
 use wire_encoding::write::Put;
 use wire_encoding::write::put_slice;
 use wire_encoding::write::put_u16;
+use wire_encoding::write::put_u32;
 use wire_encoding::write::put_u64;
 ghost use mathlib.Core.Path.{_≡_};
 ghost use Prim.Native.Nat.{_+_, _≤_};
@@ -21,7 +23,7 @@ ghost use Rattle.common_header.specs.CommonHeader.{hostLength};
 ghost use Rattle.address_header.specs.AddressHeader as spec;
 ghost use Rattle.common_header_encoding.specs.Encoding.{encoded};
 ghost use Rattle.wire_encoding.specs.Answers.{numberOfPut};
-ghost use Rattle.wire_encoding.specs.BigEndian.{bytesOf, part, placed, placing};
+ghost use Rattle.wire_encoding.specs.BigEndian.{bytesOf, placed, placing};
 ghost use Rattle.address_header.specs.Encoding.{
   serviceBytes,
   hostOnWire,
@@ -100,21 +102,6 @@ fn service_bytes(number: u16) -> [u8; 16]
     raw
 }
 
-// Copies four bytes: all are loaded before any is stored.
-fn copy_word(src: &[u8], from: usize, dst: &mut [u8], to: usize)
-    requires { ⌜ (from + 4 ≤ length (now src)) × (to + 4 ≤ length (now dst)) ⌝ }
-    ensures { λ _. ⌜ now (dst .exit) ≡ sets (now (dst .entry)) to (part from 4 (now (src .entry))) ⌝ }
-{
-    let b0 = src[from];
-    let b1 = src[from + 1];
-    let b2 = src[from + 2];
-    let b3 = src[from + 3];
-    dst[to] = b0;
-    dst[to + 1] = b1;
-    dst[to + 2] = b2;
-    dst[to + 3] = b3;
-}
-
 impl WireHost {
     // How many bytes the host has on the wire.
     pub fn encoded_length(self) -> usize
@@ -132,7 +119,7 @@ impl WireHost {
         let bytes = self.bytes;
         let mut done: usize = 0;
         while done < len {
-            copy_word(&bytes, done, dst, at + done);
+            put_u32(dst, at + done, u32_or_zero(&bytes, done));
             done += 4;
         }
     }

@@ -9,12 +9,14 @@ use native.Mathlib.Nat.{suc-mul, mod-eq-of-lt}
 use native.Mathlib.Numerals.{sub-one}
 use native.Mathlib.Omega.{arith}
 use lib.Dec.{eqb}
+use lib.Bits.{bitXor}
 use lib.ListN.{length, take, drop, getD, set, length-append, length-drop}
-use lib.Seq.{sets, drop-drop, length-sets}
+use lib.Seq.{sets, set-set, set-comm, drop-drop, length-sets}
 use borrow.Author.Tests.{lt-ltb, eq-eqb, ne-eqb}
 use Rattle.wire_encoding.specs.Choice.{pick}
 use Rattle.wire_encoding.specs.BigEndian.{bigEndian, bytesOf, part, placed}
-use Rattle.wire_encoding.proofs.Parts.{length-part, part-cons, part-bytes, part-join, written-after, sets-whole}
+use Rattle.bits.proofs.BitLaws.{flip-bit}
+use Rattle.wire_encoding.proofs.Parts.{length-part, part-cons, part-join, written-after, sets-whole}
 use Rattle.wire_encoding.proofs.Numbers.{length-bytesOf, read-bytesOf}
 use Rattle.wire_encoding.proofs.Writes.{placed-is}
 use Rattle.path_meta_header.specs.MetaHeader.{nthField, metaOf, infoFieldsCount, hopFieldsCount, pathLength}
@@ -59,24 +61,6 @@ pub sized-same : Sized same
 unfolding same
 sized-same field = refl
 
--- four bytes, one by one: stored, and loaded
-module _ (at : ℕ) where
-  one : at + 1 ≡ suc at
-  one = omega arith
-
-  two : at + 2 ≡ suc (suc at)
-  two = omega arith
-
-  three : at + 3 ≡ suc (suc (suc at))
-  three = omega arith
-
-  pub four-stores : (l : List ℕ) (a b c d : ℕ) → set (set (set (set l at a) (at + 1) b) (at + 2) c) (at + 3) d ≡ sets l at (a ∷ b ∷ c ∷ d ∷ [])
-  four-stores l a b c d = rw (one, two, three)
-
-  pub four-loads : (bytes : List ℕ) → at + 4 ≤ length bytes
-      → getD bytes at 0 ∷ getD bytes (at + 1) 0 ∷ getD bytes (at + 2) 0 ∷ getD bytes (at + 3) 0 ∷ [] ≡ part at 4 bytes
-  four-loads bytes h = rw (one, two, three) (sym (part-bytes 4 at bytes h))
-
 -- a part written after the part before it
 pub parts-written : (src dst : List ℕ) (from to m n : ℕ) → from + m ≤ length src
     → sets (sets dst to (part from m src)) (to + m) (part (from + m) n src) ≡ sets dst to (part from (m + n) src)
@@ -84,25 +68,23 @@ parts-written src dst from to m n h =
     written-after (part from m src) (part (from + m) n src) dst to m (length-part from m src h)
     ∙ ap (sets dst to) (part-join from m n src)
 
--- a hop field: three parts of four bytes
-pub three-parts : (src dst : List ℕ) (from to : ℕ) → from + 12 ≤ length src → {d₁ d₂ d₃ : List ℕ} → d₁ ≡ sets dst to (part from 4 src)
-    → d₂ ≡ sets d₁ (to + 4) (part (from + 4) 4 src) → d₃ ≡ sets d₂ (to + 8) (part (from + 8) 4 src) → d₃ ≡ sets dst to (part from 12 src)
-three-parts src dst from to h e₁ e₂ e₃ =
-    e₃
-    ∙ ap (λ (l : List ℕ). sets l (to + 8) (part (from + 8) 4 src))
-    (e₂ ∙ ap (λ (l : List ℕ). sets l (to + 4) (part (from + 4) 4 src)) e₁ ∙ parts-written src dst from to 4 4 (omega arith))
-    ∙ parts-written src dst from to 8 4 (omega arith)
+-- a store below a run of stores may be made before it
+set-below : (xs l : List ℕ) (at j b : ℕ) → j < at → set (sets l at xs) j b ≡ sets (set l j b) at xs
+set-below [] l at j b h = refl
+set-below (x ∷ xs) l at j b h =
+    set-below xs (set l at x) (suc at) j b (omega arith)
+    ∙ ap (λ (r : List ℕ). sets r (suc at) xs) (set-comm l at j x b (λ e. omega arith))
 
--- an info field: its first four bytes flipped, then the others
-pub flipped-written : (src dst : List ℕ) (from to : ℕ) → from + 8 ≤ length src
-    → sets (sets dst to (flipped (part from 4 src))) (to + 4) (part (from + 4) 4 src) ≡ sets dst to (flipped (part from 8 src))
+-- an info field: its flags are written over the copied ones, with bit 0 flipped by the mask
+pub flipped-written : (src dst : List ℕ) (from to : ℕ) → from < length src
+    → set (sets dst to (part from 8 src)) to (bitXor (getD src from 0) 1) ≡ sets dst to (flipped (part from 8 src))
 unfolding flipped
 flipped-written src dst from to h =
-    let first : part from 4 src ≡ getD src from 0 ∷ part (suc from) 3 src = part-cons from 3 src (omega arith) in
-    let whole : flipped (part from 4 src) ++ part (from + 4) 4 src ≡ flipped (part from 8 src) = rw (← part-join from 4 4 src, first) in
-    written-after (flipped (part from 4 src)) (part (from + 4) 4 src) dst to 4
-    (sized-flipped (part from 4 src) ∙ length-part from 4 src (omega arith))
-    ∙ ap (sets dst to) whole
+    let flags : ℕ = getD src from 0 in
+    let rest : List ℕ = part (suc from) 7 src in
+    rw (part-cons from 7 src h, ← flip-bit 0 flags)
+    (set-below rest (set dst to flags) (suc to) to (bitXor flags 1) (omega arith)
+    ∙ ap (λ (l : List ℕ). sets l (suc to) rest) (set-set dst to flags (bitXor flags 1)))
 
 -- RECORDS, THE LAST ONE FIRST
 

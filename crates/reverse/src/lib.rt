@@ -9,10 +9,12 @@ use path_error::PathError;
 use path_fields::HopField;
 use path_fields::InfoField;
 use path_meta_header::PathMetaHeader;
+use wire_encoding::read::u32_or_zero;
+use wire_encoding::read::u64_or_zero;
 use wire_encoding::write::put_u32;
+use wire_encoding::write::put_u64;
 ghost use mathlib.Core.Path.{_≡_};
 ghost use mathlib.Core.Bool.{true};
-ghost use mathlib.Core.List.{_∷_, []};
 ghost use Prim.Native.Nat.{_+_, _*_, _≤_};
 ghost use lib.ListN.{length, drop};
 ghost use lib.Seq.{sets};
@@ -22,55 +24,13 @@ ghost use Rattle.path_error.specs.declared.Decoded.the-variants as decoded;
 ghost use Rattle.path.specs.Standard.{readPath};
 ghost use Rattle.reverse.specs.Reverse as spec;
 
-// Writes four bytes at `to`.
-fn put_4(dst: &mut [u8], to: usize, b0: u8, b1: u8, b2: u8, b3: u8)
-    requires { ⌜ to + 4 ≤ length (now dst) ⌝ }
-    ensures { λ _. ⌜ now (dst .exit) ≡ sets (now (dst .entry)) to (b0 ∷ b1 ∷ b2 ∷ b3 ∷ []) ⌝ }
-{
-    dst[to] = b0;
-    dst[to + 1] = b1;
-    dst[to + 2] = b2;
-    dst[to + 3] = b3;
-}
-
-// Writes four bytes of `src` at `from` to `dst` at `to`: all loads, then all stores.
-fn copy_4(src: &[u8], from: usize, dst: &mut [u8], to: usize)
-    requires { ⌜ (from + 4 ≤ length (now src)) × (to + 4 ≤ length (now dst)) ⌝ }
-    ensures { λ _. ⌜ now (dst .exit) ≡ sets (now (dst .entry)) to (part from 4 (now (src .entry))) ⌝ }
-{
-    put_4(
-        dst,
-        to,
-        src[from],
-        src[from + 1],
-        src[from + 2],
-        src[from + 3],
-    );
-}
-
-// Writes four bytes of `src` at `from` to `dst` at `to`, the direction bit of the first one flipped.
-fn flip_4(src: &[u8], from: usize, dst: &mut [u8], to: usize)
-    requires { ⌜ (from + 4 ≤ length (now src)) × (to + 4 ≤ length (now dst)) ⌝ }
-    ensures { λ _. ⌜ now (dst .exit) ≡ sets (now (dst .entry)) to (spec.flipped (part from 4 (now (src .entry)))) ⌝ }
-{
-    let flags = src[from];
-    put_4(
-        dst,
-        to,
-        flags ^ InfoField::CONSTRUCTION_DIRECTION_FLAG,
-        src[from + 1],
-        src[from + 2],
-        src[from + 3],
-    );
-}
-
 // Writes the info field of `src` at `from` to `dst` at `to`, its direction bit flipped.
 fn reverse_info_field(src: &[u8], from: usize, dst: &mut [u8], to: usize)
     requires { ⌜ (from + 8 ≤ length (now src)) × (to + 8 ≤ length (now dst)) ⌝ }
     ensures { λ _. ⌜ now (dst .exit) ≡ sets (now (dst .entry)) to (spec.flipped (part from 8 (now (src .entry)))) ⌝ }
 {
-    flip_4(src, from, dst, to);
-    copy_4(src, from + 4, dst, to + 4);
+    put_u64(dst, to, u64_or_zero(src, from));
+    dst[to] = src[from] ^ InfoField::CONSTRUCTION_DIRECTION_FLAG;
 }
 
 // Writes the hop field of `src` at `from` to `dst` at `to`.
@@ -78,9 +38,8 @@ fn copy_hop_field(src: &[u8], from: usize, dst: &mut [u8], to: usize)
     requires { ⌜ (from + 12 ≤ length (now src)) × (to + 12 ≤ length (now dst)) ⌝ }
     ensures { λ _. ⌜ now (dst .exit) ≡ sets (now (dst .entry)) to (part from 12 (now (src .entry))) ⌝ }
 {
-    copy_4(src, from, dst, to);
-    copy_4(src, from + 4, dst, to + 4);
-    copy_4(src, from + 8, dst, to + 8);
+    put_u64(dst, to, u64_or_zero(src, from));
+    put_u32(dst, to + 8, u32_or_zero(src, from + 8));
 }
 
 // Writes `count` info fields of `src` from `from` on to `dst`, the last one first, each with its direction bit flipped.

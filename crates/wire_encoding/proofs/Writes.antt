@@ -10,10 +10,10 @@ use lib.ListN.{length, getD, set, drop, length-set, drop-of-length-le}
 use lib.Seq.{sets, drop-cons, length-sets}
 use borrow.Author.Tests.{le-leb, lt-leb}
 use mathlib.Core.Bool.{Bool, true, false}
-use Rattle.wire_encoding.specs.Choice.{pick}
-use Rattle.wire_encoding.specs.BigEndian.{bytesOf, room, placing, placed}
-use Rattle.wire_encoding.proofs.Parts.{sets-append, set-sets, sets-whole}
-use Rattle.wire_encoding.proofs.Numbers.{length-bytesOf}
+use Rattle.wire_encoding.specs.Choice.{pick, orZero}
+use Rattle.wire_encoding.specs.BigEndian.{bytesOf, numberAt, part, room, placing, placed}
+use Rattle.wire_encoding.proofs.Parts.{Bytes, sets-append, set-sets, sets-whole}
+use Rattle.wire_encoding.proofs.Numbers.{or-zero-is, length-bytesOf, bytes-read}
 
 -- what is left of a number, written to dst as it is now, gives what is wanted
 pub record NumberLeft (goal dst₀ dst : List ℕ) (at left rest : ℕ) : Type 0 where
@@ -87,3 +87,12 @@ length-placed dst at run = go (room dst at (length run))
 -- a run written over a destination of exactly its size is all that the destination then holds
 pub placed-whole : (run dst : List ℕ) → length run ≡ length dst → placed dst 0 run ≡ run
 placed-whole run dst e = placed-is dst 0 run (length dst) e (omega arith) ∙ sets-whole run dst e
+
+-- a number read and written elsewhere is its bytes copied, for the bytes of a number that was read are the bytes that were read
+pub number-copied : (width : ℕ) (src dst : List ℕ) (from to : ℕ) → Bytes src → from + width ≤ length src → to + width ≤ length dst
+    → {n : ℕ} → n ≡ orZero (numberAt width src from) → {now : List ℕ} → now ≡ placed dst to (bytesOf width n)
+    → now ≡ sets dst to (part from width src)
+number-copied width src dst from to b there room {n} read e =
+    e
+    ∙ placed-is dst to (bytesOf width n) width (length-bytesOf width n) room
+    ∙ ap (sets dst to) (ap (bytesOf width) (read ∙ or-zero-is width src from there) ∙ bytes-read width src b from there)

@@ -1,32 +1,40 @@
--- `reverse_info_field` meets its contract: the flags are in the first four bytes, and the other four are copied.
-use mathlib.Core.Path.{_∙_}
+-- `reverse_info_field` meets its contract: all eight bytes are copied as a number, and the flags written again, flipped.
 use native.Mathlib.Omega.{arith}
+use Rattle.wire_encoding.proofs.Writes.{number-copied}
 use Rattle.reverse.proofs.Laws.{flipped-written}
 use borrow.Author.Needs.{needs}
 use Rattle.reverse.proofs.reverse_info_field.Statement.{statement}
 use Rattle.reverse.proofs.reverse_info_field.Tie as tie
 
-flip-4-requires : tie.Need-flip-4-requires
-flip-4-requires c κs = search needs
+u64-or-zero-requires : tie.Need-u64-or-zero-requires
+u64-or-zero-requires c κs = search needs
 
-add-copy-4 : tie.Need-add-copy-4
-add-copy-4 c = search needs
+put-u64-requires : tie.Need-put-u64-requires
+put-u64-requires c κs = search needs
 
-add-copy-4-2 : tie.Need-add-copy-4-2
-add-copy-4-2 c = search needs
+shared-slice-read-dst : tie.Need-shared-slice-read-dst
+shared-slice-read-dst c = search needs
 
-copy-4-requires : tie.Need-copy-4-requires
-copy-4-requires c κs = search needs
+slice-write-dst : tie.Need-slice-write-dst
+slice-write-dst c = search needs
 
 same-length : tie.Need-same-length
 same-length c = search needs
 
 returns : tie.Need-returns
 returns c =
-    let a = c .before .before .before .before .before .before .before .before .before .before .args in
-    rw (c .before .before .before .before .before .before .flip-4 .ensures) at (c .before .before .copy-4 .ensures) ∙ flipped-written (a .src .now) (a .dst .now) (a .from) (a .to) (omega arith)
+    let put = c .before .before .before in
+    let a = put .before .before .before .before .before .args in
+    let copied = number-copied 8 (a .src .now) (a .dst .now) (a .from) (a .to) (put .before .before .before .before .shared-slice-known .given) (omega arith) (omega arith) (put .before .u64-or-zero .ensures) (put .put-u64 .ensures .1) in
+    rw copied (flipped-written (a .src .now) (a .dst .now) (a .from) (a .to) (omega arith))
 
 pub reverse-info-field-spec : {M : Type 1} → statement M
 reverse-info-field-spec =
     tie.close
-    (tie.spec flip-4-requires add-copy-4 add-copy-4-2 copy-4-requires same-length returns)
+    (tie.spec
+    u64-or-zero-requires
+    put-u64-requires
+    shared-slice-read-dst
+    slice-write-dst
+    same-length
+    returns)

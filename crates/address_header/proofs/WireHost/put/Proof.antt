@@ -6,7 +6,7 @@ use lib.ListN.{length, take}
 use lib.Seq.{sets}
 use Rattle.common_header.specs.CommonHeader.{hostLength}
 use Rattle.address_header.specs.Encoding.{wireHostBytes}
-use Rattle.address_header.proofs.EncodingLaws.{Written, host-words, word-inside, length-written, word-written}
+use Rattle.address_header.proofs.EncodingLaws.{Written, host-words, length-written, word-written}
 use borrow.Author.Needs.{needs}
 use Rattle.address_header.proofs.WireHost.put.Statement.{statement}
 use Rattle.address_header.proofs.WireHost.put.Tie as tie
@@ -28,32 +28,31 @@ loop-holds c = record {
   passed = omega arith;
 }
 
-slice-aggregate-copy-word : tie.Need-slice-aggregate-copy-word Inv-loop μ-loop
-slice-aggregate-copy-word c = search needs
+add-put-u32 : tie.Need-add-put-u32 Inv-loop μ-loop
+add-put-u32 c = omega (arith, c .before .before .before .before .encoded-length .ensures .0)
 
-add-copy-word : tie.Need-add-copy-word Inv-loop μ-loop
-add-copy-word c = omega (arith, c .before .before .before .before .before .encoded-length .ensures .0)
+slice-aggregate-u32-or-zero : tie.Need-slice-aggregate-u32-or-zero Inv-loop μ-loop
+slice-aggregate-u32-or-zero c = search needs
 
-copy-word-requires : tie.Need-copy-word-requires Inv-loop μ-loop
-copy-word-requires c κs =
-    let s = c .before .before in
-    let more = word-inside (s .before .loop .inv) (s .loop-test .taken) in
-    let kept = length-written (s .before .loop .inv) in
-    let sixteen : length (s .before .before .before .before .before .args .self .bytes) ≡ 16 = search needs in
-    let long = s .before .before .before .encoded-length .ensures in
-    (omega arith, omega arith)
+u32-or-zero-requires : tie.Need-u32-or-zero-requires Inv-loop μ-loop
+u32-or-zero-requires c κs = search needs
+
+put-u32-requires : tie.Need-put-u32-requires Inv-loop μ-loop
+put-u32-requires c κs = search needs
 
 add-done : tie.Need-add-done Inv-loop μ-loop
-add-done c = omega (arith, c .before .before .before .before .before .before .before .before .encoded-length .ensures .1)
+add-done c = omega (arith, c .before .before .before .before .before .before .before .before .before .encoded-length .ensures .1)
 
 loop-less : tie.Need-loop-less Inv-loop μ-loop
 loop-less c = omega arith
 
 loop-again : tie.Need-loop-again Inv-loop μ-loop
 loop-again c =
-    let s = c .before .before .before .before .before in
-    let sixteen : length (s .before .before .before .before .before .args .self .bytes) ≡ 16 = search needs in
-    word-written (s .before .loop .inv) (s .loop-test .taken) (omega (arith, s .before .before .before .encoded-length .ensures .1)) (c .before .before .copy-word .ensures)
+    let s = c .before .before .before .before .before .before in
+    let start = s .before .before .before .before .before in
+    let sixteen : length (start .args .self .bytes) ≡ 16 = search needs in
+    let long = s .before .before .before .encoded-length .ensures in
+    word-written (s .before .loop .inv) (λ k. search needs) (s .loop-test .taken) (omega arith) (omega arith) (c .before .before .before .u32-or-zero .ensures) (c .before .before .put-u32 .ensures .1)
 
 same-length : tie.Need-same-length Inv-loop μ-loop
 same-length c = length-written (c .before .loop .inv)
@@ -73,9 +72,10 @@ put-spec =
     μ-loop
     encoded-length-requires
     loop-holds
-    slice-aggregate-copy-word
-    add-copy-word
-    copy-word-requires
+    add-put-u32
+    slice-aggregate-u32-or-zero
+    u32-or-zero-requires
+    put-u32-requires
     add-done
     loop-less
     loop-again
