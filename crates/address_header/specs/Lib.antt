@@ -1,2 +1,1 @@
 pub mod AddressHeader
-pub mod Encoding

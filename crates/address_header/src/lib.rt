@@ -4,38 +4,16 @@ use address::ia::IsdAsn;
 use address::scion_address::ScionAddr;
 use address::service::ServiceAddr;
 use common_header::AddressInfo;
-use common_header_encoding::error::EncodeError;
-use common_header_encoding::error::Encoded;
 use path_error::DecodeError;
 use path_error::Decoded;
 use wire_encoding::read::u16_or_zero;
-use wire_encoding::read::u32_or_zero;
 use wire_encoding::read::u64_or_zero;
-use wire_encoding::write::Put;
 use wire_encoding::write::put_slice;
-use wire_encoding::write::put_u16;
-use wire_encoding::write::put_u32;
-use wire_encoding::write::put_u64;
 ghost use mathlib.Core.Path.{_≡_};
 ghost use Prim.Native.Nat.{_+_, _≤_};
 ghost use lib.ListN.{length};
 ghost use Rattle.common_header.specs.CommonHeader.{hostLength};
 ghost use Rattle.address_header.specs.AddressHeader as spec;
-ghost use Rattle.common_header_encoding.specs.Encoding.{encoded};
-ghost use Rattle.wire_encoding.specs.Answers.{numberOfPut};
-ghost use Rattle.wire_encoding.specs.BigEndian.{bytesOf, placed, placing};
-ghost use Rattle.address_header.specs.Encoding.{
-  serviceBytes,
-  hostOnWire,
-  onWire,
-  wireHostBytes,
-  wireLength,
-  wireBytes,
-  wireEncoding,
-  addressBytes,
-  addressEncoding,
-};
-ghost use lib.Seq.{sets};
 
 // A host of a kind that has a name, or another kind.
 pub enum MaybeEncoded {
@@ -54,20 +32,6 @@ pub struct AddressHeader {
     pub source_ia: IsdAsn,
     pub destination: HostAddress,
     pub source: HostAddress,
-}
-
-// A host as it is on the wire: its kind, and sixteen bytes that begin with its own.
-pub struct WireHost {
-    pub kind: u8,
-    pub bytes: [u8; 16],
-}
-
-// An address header as it is on the wire.
-pub struct WireAddress {
-    pub destination_ia: u64,
-    pub source_ia: u64,
-    pub destination: WireHost,
-    pub source: WireHost,
 }
 
 // An address header that was read, and its length in bytes; all zero where it was refused.
@@ -91,100 +55,6 @@ fn raw_host_address(bytes: &[u8], at: usize, len: usize) -> [u8; 16]
     let mut host = [0; 16];
     put_slice(&mut host, 0, &bytes[at..at + len]);
     host
-}
-
-// A service's number, then zeros.
-fn service_bytes(number: u16) -> [u8; 16]
-    ensures { λ r. ⌜ r ≡ serviceBytes number ⌝ }
-{
-    let mut raw = [0; 16];
-    put_u16(&mut raw, 0, number);
-    raw
-}
-
-impl WireHost {
-    // How many bytes the host has on the wire.
-    pub fn encoded_length(self) -> usize
-        ensures { λ r. ⌜ (r ≡ hostLength (self .kind)) × (r ≤ 16) ⌝ }
-    {
-        AddressInfo(self.kind).address_length()
-    }
-
-    // Writes the host at `at`, where there is room for it, in words of four bytes.
-    fn put(self, dst: &mut [u8], at: usize)
-        requires { ⌜ at + hostLength (self .kind) ≤ length (now dst) ⌝ }
-        ensures { λ _. ⌜ now (dst .exit) ≡ sets (now (dst .entry)) at (wireHostBytes self) ⌝ }
-    {
-        let len = self.encoded_length();
-        let bytes = self.bytes;
-        let mut done: usize = 0;
-        while done < len {
-            put_u32(dst, at + done, u32_or_zero(&bytes, done));
-            done += 4;
-        }
-    }
-}
-
-// Writes an end's host at `host_at` and its network before it, at `at`, where there is room for both. The host goes first: after its
-// loop the compiler stores the network's eight bytes at once.
-fn put_end(network: u64, host: WireHost, dst: &mut [u8], at: usize, host_at: usize)
-    requires { ⌜ (at + 8 ≤ «host_at») × («host_at» + hostLength (host .kind) ≤ length (now dst)) ⌝ }
-    ensures { λ _. ⌜ now (dst .exit) ≡ sets (sets (now (dst .entry)) at (bytesOf 8 network)) «host_at» (wireHostBytes host) ⌝ }
-{
-    host.put(dst, host_at);
-    put_u64(dst, at, network);
-}
-
-impl WireAddress {
-    // How many bytes the header has on the wire.
-    pub fn encoded_length(self) -> usize
-        ensures { λ r. ⌜ (r ≡ wireLength self) × (r ≤ 48) ⌝ }
-    {
-        AddressHeader::BASE_LENGTH
-            + self.destination.encoded_length()
-            + self.source.encoded_length()
-    }
-
-    // Whether the header can be written to `size` bytes.
-    fn check(self, size: usize) -> Encoded
-        ensures { λ r. ⌜ r ≡ wireEncoding self size ⌝ }
-    {
-        if 16 <= self.destination.kind {
-            return Encoded::Refused(EncodeError::NumberTooWide);
-        }
-        if 16 <= self.source.kind {
-            return Encoded::Refused(EncodeError::NumberTooWide);
-        }
-        if size == self.encoded_length() {
-            return Encoded::Done;
-        }
-        Encoded::Refused(EncodeError::InadequateBufferSize)
-    }
-
-    // Writes both ends at `at`, where there is room for them.
-    fn write(self, dst: &mut [u8], at: usize)
-        requires { ⌜ at + wireLength self ≤ length (now dst) ⌝ }
-        ensures { λ _. ⌜ now (dst .exit) ≡ sets (now (dst .entry)) at (wireBytes self) ⌝ }
-    {
-        let hosts = at + AddressHeader::BASE_LENGTH;
-        let last = hosts + self.destination.encoded_length();
-        put_end(self.destination_ia, self.destination, dst, at, hosts);
-        put_end(self.source_ia, self.source, dst, at + 8, last);
-    }
-
-    // Writes all of the header at `at`, or nothing for want of room.
-    pub fn put(self, dst: &mut [u8], at: usize) -> Put
-        ensures { λ r. ⌜ numberOfPut r ≡ placing (now (dst .entry)) at (wireBytes self) ⌝ }
-        ensures { λ _. ⌜ now (dst .exit) ≡ placed (now (dst .entry)) at (wireBytes self) ⌝ }
-    {
-        if at <= dst.len() {
-            if self.encoded_length() <= dst.len() - at {
-                self.write(dst, at);
-                return Put::Done;
-            }
-        }
-        Put::InadequateBufferSize
-    }
 }
 
 impl MaybeEncoded {
@@ -244,25 +114,6 @@ impl HostAddress {
         let host = MaybeEncoded::of_kind(kind);
         let raw = raw_host_address(bytes, at, len);
         HostAddress { host, bytes: raw }
-    }
-
-    // The host as it is on the wire; a service is its number, then zeros.
-    pub fn on_wire(self) -> WireHost
-        ensures { λ r. ⌜ r ≡ hostOnWire self ⌝ }
-    {
-        let host = self.host;
-        let bytes = self.bytes;
-        match host {
-            MaybeEncoded::Decoded(named) => match named {
-                HostAddr::V4 => WireHost { kind: 0, bytes },
-                HostAddr::V6 => WireHost { kind: 3, bytes },
-                HostAddr::Svc(service) => WireHost {
-                    kind: 4,
-                    bytes: service_bytes(service.0),
-                },
-            },
-            MaybeEncoded::Encoded(kind) => WireHost { kind, bytes },
-        }
     }
 
     // A host that has a name, with its network.
@@ -346,34 +197,9 @@ impl AddressHeader {
     pub fn encoded_length(self) -> usize
         ensures { λ r. ⌜ (r ≡ spec.addressLength self) × (r ≤ 48) ⌝ }
     {
-        self.on_wire().encoded_length()
-    }
-
-    // The header as it is on the wire.
-    pub fn on_wire(self) -> WireAddress
-        ensures { λ r. ⌜ r ≡ onWire self ⌝ }
-    {
-        WireAddress {
-            destination_ia: self.destination_ia.0,
-            source_ia: self.source_ia.0,
-            destination: self.destination.on_wire(),
-            source: self.source.on_wire(),
-        }
-    }
-
-    // Writes the header to `dst`, or leaves it as it is.
-    pub fn encode_to(self, dst: &mut [u8]) -> Encoded
-        ensures { λ r. ⌜ r ≡ addressEncoding self (length (now (dst .entry))) ⌝ }
-        ensures { λ _. ⌜ now (dst .exit) ≡ encoded (addressEncoding self (length (now (dst .entry)))) (addressBytes self) (now (dst .entry)) ⌝ }
-    {
-        let wire = self.on_wire();
-        match wire.check(dst.len()) {
-            Encoded::Done => {
-                wire.put(dst, 0);
-                Encoded::Done
-            }
-            Encoded::Refused(error) => Encoded::Refused(error),
-        }
+        AddressHeader::BASE_LENGTH
+            + self.destination.encoded_length()
+            + self.source.encoded_length()
     }
 
     // Reads the address header that begins `bytes`, whose hosts are of these kinds.

@@ -258,7 +258,7 @@ fn put_address(line: &[u8]) {
     let mut room = words::room();
     let length = words::bytes_at(line, 9, &mut room);
     let dst = &mut room[..length];
-    encoded(header.encode_to(dst));
+    encoded(address_header_encoding::encode_to(header, dst));
     print::bytes(dst);
 }
 

@@ -17,10 +17,10 @@ use Rattle.wire_encoding.proofs.Writes.{placed-is}
 use Rattle.common_header.specs.CommonHeader.{hostLength}
 use Rattle.address_header.specs.AddressHeader.{addressLength, lengthOfKinds}
 use Rattle.common_header_encoding.specs.Encoding.{encoded, fieldsFit, commonFits, commonBytes, commonEncoding}
-use Rattle.address_header.specs.Encoding.{hostOnWire, onWire, wireLength, wireBytes, addressBytes}
+use Rattle.address_header_encoding.specs.Encoding.{hostOnWire, onWire, wireLength, wireBytes, addressBytes}
 use Rattle.common_header.specs.declared.CommonHeader.{CommonHeader}
 use Rattle.address_header.specs.declared.AddressHeader.{AddressHeader}
-use Rattle.address_header.specs.declared.WireAddress.{WireAddress}
+use Rattle.address_header_encoding.specs.declared.WireAddress.{WireAddress}
 use Rattle.common_header_encoding.specs.declared.error.Encoded.the-variants.{Done, Refused}
 use Rattle.common_header_encoding.specs.declared.error.EncodeError.the-variants.{
   NumberTooWide,
@@ -30,7 +30,7 @@ use Rattle.common_header_encoding.specs.declared.error.EncodeError.the-variants
   InadequateBufferSize,
 }
 use Rattle.common_header_encoding.proofs.EncodingLaws.{not-done, length-commonBytes}
-use Rattle.address_header.proofs.EncodingLaws.{Sixteen, wire-length, length-addressBytes, sets-apart}
+use Rattle.address_header_encoding.proofs.EncodingLaws.{Sixteen, wire-length, length-addressBytes, sets-apart}
 use Rattle.headers.specs.declared.ScionHeaders.{ScionHeaders}
 use Rattle.headers.specs.Headers.{addedLength, addedBytes, headersLength, commonOf, encoding, headerBytes, Narrow}
 

@@ -6,7 +6,7 @@ use lib.Dec.{ltb, eqb}
 use Rattle.wire_encoding.specs.Choice.{pick}
 use Rattle.address_header.specs.AddressHeader.{kindOf, addressLength}
 use Rattle.common_header_encoding.specs.Encoding.{commonFits, commonBytes}
-use Rattle.address_header.specs.Encoding.{addressBytes}
+use Rattle.address_header_encoding.specs.Encoding.{addressBytes}
 use Rattle.common_header.specs.declared.CommonHeader.{CommonHeader}
 use Rattle.address_header.specs.declared.AddressHeader.{AddressHeader}
 use Rattle.common_header_encoding.specs.declared.error.Encoded.{Encoded}

@@ -1,6 +1,6 @@
 // All headers of a packet, put together and written.
 use address_header::AddressHeader;
-use address_header::WireAddress;
+use address_header_encoding::WireAddress;
 use common_header::CommonHeader;
 use common_header_encoding::error::EncodeError;
 use common_header_encoding::error::Encoded;
@@ -12,7 +12,7 @@ ghost use lib.Dec.{eqb};
 ghost use lib.ListN.{length};
 ghost use lib.Seq.{sets};
 ghost use Rattle.common_header_encoding.specs.Encoding.{encoded, commonEncoding, commonBytes};
-ghost use Rattle.address_header.specs.Encoding.{onWire};
+ghost use Rattle.address_header_encoding.specs.Encoding.{onWire};
 ghost use Rattle.common_header_encoding.specs.declared.error.Encoded.the-variants.{Done};
 ghost use Rattle.headers.specs.Headers as spec;
 
@@ -166,7 +166,7 @@ impl ScionHeaders {
             ⌜ now (dst .exit)
             ≡ encoded (spec.encoding self (length (now (path .entry))) (length (now (dst .entry)))) (spec.headerBytes self (now (path .entry))) (now (dst .entry)) ⌝ }
     {
-        let wire = self.address.on_wire();
+        let wire = address_header_encoding::on_wire(self.address);
         match self.check(wire, path.len(), dst.len()) {
             Encoded::Done => {
                 self.put(wire, path, dst);

@@ -13,10 +13,10 @@ use Rattle.wire_encoding.proofs.Numbers.{length-bytesOf, bytes-read, read-bytes
 use Rattle.path_error.specs.declared.Decoded.the-variants.{Accepted}
 use Rattle.common_header.specs.CommonHeader.{hostLength}
 use Rattle.address_header.specs.AddressHeader.{kindOf, hostAt, lengthOfKinds, addressLength, addressAt, readAddress}
-use Rattle.address_header.specs.Encoding.{hostBytes, addressBytes}
+use Rattle.address_header_encoding.specs.Encoding.{hostBytes, addressBytes}
 use Rattle.address_header.specs.declared.AddressHeader.{AddressHeader}
 use Rattle.address_header.specs.declared.AddressHeaderRead.{AddressHeaderRead}
-use Rattle.address_header.proofs.EncodingLaws.{Sixteen, length-hostBytes, length-addressBytes, four-runs}
+use Rattle.address_header_encoding.proofs.EncodingLaws.{Sixteen, length-hostBytes, length-addressBytes, four-runs}
 use Rattle.written_read.specs.WrittenRead.{hostRead, addressRead, PaddingZero}
 use Rattle.written_read.proofs.Hosts.{host-own, kind-read, host-written}
 

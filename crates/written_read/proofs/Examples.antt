@@ -19,7 +19,7 @@ use Rattle.path.specs.Dataplane as dataplane
 use Rattle.common_header.specs.CommonHeader as common
 use Rattle.address_header.specs.AddressHeader as address
 use Rattle.common_header_encoding.specs.Encoding as common-encoding
-use Rattle.address_header.specs.Encoding as address-encoding
+use Rattle.address_header_encoding.specs.Encoding as address-encoding
 use Rattle.address_header.specs.declared.MaybeEncoded.the-variants.{Decoded, Encoded}
 use Rattle.packet.specs.Raw as raw
 use Rattle.packet.specs.Raw.{readPacket}

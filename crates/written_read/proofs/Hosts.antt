@@ -17,7 +17,7 @@ use Rattle.wire_encoding.proofs.Numbers.{below, bytes-read, read-bytesOf}
 use Rattle.address.specs.declared.host.HostAddr.the-variants.{V4, V6, Svc}
 use Rattle.common_header.specs.CommonHeader.{hostLength}
 use Rattle.address_header.specs.AddressHeader.{kindOf, hostOfKind, padded, hostAt}
-use Rattle.address_header.specs.Encoding.{serviceBytes, rawOf, hostOnWire, wireHostBytes, hostBytes}
+use Rattle.address_header_encoding.specs.Encoding.{serviceBytes, rawOf, hostOnWire, wireHostBytes, hostBytes}
 use Rattle.address_header.specs.declared.MaybeEncoded.the-variants.{Decoded, Encoded}
 use Rattle.address_header.specs.declared.HostAddress.{HostAddress}
 use Rattle.common_header_encoding.proofs.EncodingLaws.{host-few}

@@ -19,7 +19,7 @@ use Rattle.common_header.specs.CommonHeader.{hostLength}
 use Rattle.address_header.specs.AddressHeader as address
 use Rattle.address_header.specs.AddressHeader.{lengthOfKinds, addressLength}
 use Rattle.common_header_encoding.specs.Encoding as common-encode
-use Rattle.address_header.specs.Encoding as address-encode
+use Rattle.address_header_encoding.specs.Encoding as address-encode
 use Rattle.address_header.specs.declared.MaybeEncoded.the-variants.{Decoded}
 use Rattle.address_header.specs.declared.AddressHeader.{AddressHeader}
 use Rattle.common_header_encoding.specs.declared.error.Encoded.the-variants.{Done}

@@ -13,11 +13,11 @@ use Rattle.path.specs.Dataplane.{readDataplane}
 use Rattle.common_header.specs.CommonHeader.{readCommon, headerLength, hostLength}
 use Rattle.address_header.specs.AddressHeader.{addressLength, lengthOfKinds, readAddress}
 use Rattle.common_header_encoding.specs.Encoding.{commonBytes}
-use Rattle.address_header.specs.Encoding.{addressBytes}
+use Rattle.address_header_encoding.specs.Encoding.{addressBytes}
 use Rattle.common_header.specs.declared.CommonHeader.{CommonHeader}
 use Rattle.address_header.specs.declared.AddressHeader.{AddressHeader}
 use Rattle.common_header_encoding.proofs.EncodingLaws.{common-widths, length-commonBytes}
-use Rattle.address_header.proofs.EncodingLaws.{Sixteen, length-addressBytes}
+use Rattle.address_header_encoding.proofs.EncodingLaws.{Sixteen, length-addressBytes}
 use Rattle.packet.specs.Raw.{headerEnd, afterPath, pathFound, afterAddress, addressFound, afterCommon, commonFound, readPacket}
 use Rattle.headers.specs.Headers.{addedBytes, headersLength, commonOf, headerBytes}
 use Rattle.headers.specs.declared.ScionHeaders.{ScionHeaders}

@@ -17,7 +17,7 @@ use Rattle.path.specs.declared.dataplane.DataplaneRead.{DataplaneRead}
 use Rattle.common_header.specs.CommonHeader.{commonOf, hostLength}
 use Rattle.address_header.specs.AddressHeader.{addressAt, lengthOfKinds}
 use Rattle.common_header_encoding.specs.Encoding.{fieldsFit, commonFits}
-use Rattle.address_header.specs.Encoding.{addressBytes}
+use Rattle.address_header_encoding.specs.Encoding.{addressBytes}
 use Rattle.common_header_encoding.specs.declared.error.Encoded.the-variants.{Done}
 use Rattle.common_header_encoding.proofs.EncodingLaws.{Widths}
 use Rattle.packet.proofs.PacketLaws.{header-end-inside}

@@ -9,7 +9,7 @@ use Rattle.path_error.specs.declared.Decoded.the-variants.{Accepted}
 use Rattle.path.specs.Dataplane.{readDataplane, partIn}
 use Rattle.common_header.specs.CommonHeader.{hostLength}
 use Rattle.address_header.specs.AddressHeader.{kindOf, hostAt, addressLength}
-use Rattle.address_header.specs.Encoding.{hostBytes}
+use Rattle.address_header_encoding.specs.Encoding.{hostBytes}
 use Rattle.address_header.specs.declared.HostAddress.{HostAddress}
 use Rattle.address_header.specs.declared.AddressHeader.{AddressHeader}
 use Rattle.common_header_encoding.specs.declared.error.Encoded.the-variants.{Done}

@@ -1,4 +1,4 @@
--- `CommonHeader::check` meets its contract: the same tests in the same order.
+-- `check` meets its contract: the same tests in the same order.
 use borrow.Author.Tests.{eq-eqb, ne-eqb, not-true, not-false}
 use Rattle.common_header_encoding.specs.Encoding.{commonEncoding, commonFits}
 use borrow.Author.Needs.{needs}

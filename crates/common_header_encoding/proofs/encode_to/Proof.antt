@@ -1,4 +1,4 @@
--- `CommonHeader::encode_to` meets its contract: a header that the tests let through is written whole.
+-- `encode_to` meets its contract: a header that the tests let through is written whole.
 use mathlib.Core.Path.{refl, sym, _∙_}
 use mathlib.Core.Path.{refl, sym, _∙_}
 use mathlib.Core.Path.{refl, sym, _∙_}

@@ -1,7 +1,7 @@
 -- `ScionHeaders::put` meets its contract: the three parts follow one another and fill the destination.
 use native.Mathlib.Omega.{arith}
 use lib.ListN.{length}
-use Rattle.address_header.proofs.EncodingLaws.{Sixteen}
+use Rattle.address_header_encoding.proofs.EncodingLaws.{Sixteen}
 use Rattle.headers.specs.Headers.{headersLength}
 use Rattle.headers.proofs.WritingLaws.{Known, known, narrow, common-writes, added-few, three-written}
 use borrow.Author.Needs.{needs}

@@ -1,12 +1,12 @@
--- `AddressHeader::encode_to` meets its contract: a header that the tests let through fills the destination.
+-- `encode_to` meets its contract: a header that the tests let through fills the destination.
 use mathlib.Core.Path.{refl, sym, _∙_}
 use Rattle.wire_encoding.proofs.Writes.{placed-whole}
 use Rattle.common_header_encoding.specs.Encoding.{encoded}
-use Rattle.address_header.specs.Encoding.{onWire, addressBytes, addressEncoding}
-use Rattle.address_header.proofs.EncodingLaws.{Sixteen, wire-length, wire-done, length-addressBytes}
+use Rattle.address_header_encoding.specs.Encoding.{onWire, addressBytes, addressEncoding}
+use Rattle.address_header_encoding.proofs.EncodingLaws.{Sixteen, wire-length, wire-done, length-addressBytes}
 use borrow.Author.Needs.{needs}
-use Rattle.address_header.proofs.AddressHeader.encode_to.Statement.{statement}
-use Rattle.address_header.proofs.AddressHeader.encode_to.Tie as tie
+use Rattle.address_header_encoding.proofs.encode_to.Statement.{statement}
+use Rattle.address_header_encoding.proofs.encode_to.Tie as tie
 
 on-wire-requires : tie.Need-on-wire-requires
 on-wire-requires c κs = search needs
@@ -27,7 +27,7 @@ same-length : tie.Need-same-length
 same-length c = search needs
 
 -- the arrays beside the hosts
-both-sixteen : (c : tie.Start) → Sixteen (c .args .self)
+both-sixteen : (c : tie.Start) → Sixteen (c .args .header)
 both-sixteen c = record { destination-sixteen = search needs; source-sixteen = search needs }
 
 returns : tie.Need-returns
@@ -35,7 +35,7 @@ unfolding encoded addressBytes addressEncoding
 returns c =
     let s = c .before .before .before .before .before .before .before in
     let start = s .before .before in
-    let a = start .args .self in
+    let a = start .args .header in
     let done = sym (rw (s .on-wire .ensures) at (c .before .before .before .before .before .before .check .ensures)) ∙ c .before .before .before .before .enum-told .given .1 in
     let size = length-addressBytes a (both-sixteen start) ∙ sym (wire-length a) ∙ sym (wire-done (onWire a) _ done) in
     rw done (refl, rw (s .on-wire .ensures) at (c .before .before .put .ensures .1) ∙ placed-whole (addressBytes a) (start .args .dst .now) size)

@@ -1,9 +1,9 @@
--- `HostAddress::on_wire` meets its contract, arm by arm.
+-- `host_on_wire` meets its contract, arm by arm.
 use Rattle.address_header.specs.AddressHeader.{kindOf}
-use Rattle.address_header.specs.Encoding.{rawOf, hostOnWire}
+use Rattle.address_header_encoding.specs.Encoding.{rawOf, hostOnWire}
 use borrow.Author.Needs.{needs}
-use Rattle.address_header.proofs.HostAddress.on_wire.Statement.{statement}
-use Rattle.address_header.proofs.HostAddress.on_wire.Tie as tie
+use Rattle.address_header_encoding.proofs.host_on_wire.Statement.{statement}
+use Rattle.address_header_encoding.proofs.host_on_wire.Tie as tie
 
 enum-known-host : tie.Need-enum-known-host
 enum-known-host c = search needs
@@ -39,8 +39,8 @@ returns-4 : tie.Need-returns-4
 unfolding hostOnWire kindOf rawOf
 returns-4 c = rw (c .before .host2 .given .1)
 
-pub on-wire-spec : {M : Type 1} → statement M
-on-wire-spec =
+pub host-on-wire-spec : {M : Type 1} → statement M
+host-on-wire-spec =
     tie.close
     (tie.spec
     enum-known-host

@@ -1,10 +1,10 @@
 -- `WireAddress::encoded_length` meets its contract: the networks, then both hosts.
 use native.Mathlib.Omega.{arith}
 use Rattle.address_header.specs.AddressHeader.{lengthOfKinds}
-use Rattle.address_header.specs.Encoding.{wireLength}
+use Rattle.address_header_encoding.specs.Encoding.{wireLength}
 use borrow.Author.Needs.{needs}
-use Rattle.address_header.proofs.WireAddress.encoded_length.Statement.{statement}
-use Rattle.address_header.proofs.WireAddress.encoded_length.Tie as tie
+use Rattle.address_header_encoding.proofs.WireAddress.encoded_length.Statement.{statement}
+use Rattle.address_header_encoding.proofs.WireAddress.encoded_length.Tie as tie
 
 encoded-length-requires : tie.Need-encoded-length-requires
 encoded-length-requires c κs = search needs

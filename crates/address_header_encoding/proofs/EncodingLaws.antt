@@ -19,15 +19,15 @@ use Rattle.common_header_encoding.specs.declared.error.EncodeError.the-variants
 use Rattle.common_header_encoding.specs.declared.error.Encoded.{Encoded}
 use Rattle.common_header_encoding.specs.declared.error.Encoded.the-variants.{Done, Refused}
 use Rattle.common_header_encoding.proofs.EncodingLaws.{not-done, host-few}
 use Rattle.address_header.specs.declared.MaybeEncoded.{MaybeEncoded}
 use Rattle.address_header.specs.declared.MaybeEncoded.the-variants as host
 use Rattle.address_header.specs.declared.HostAddress.{HostAddress}
 use Rattle.address_header.specs.declared.AddressHeader.{AddressHeader}
-use Rattle.address_header.specs.declared.WireHost.{WireHost}
-use Rattle.address_header.specs.declared.WireAddress.{WireAddress}
+use Rattle.address_header_encoding.specs.declared.WireHost.{WireHost}
+use Rattle.address_header_encoding.specs.declared.WireAddress.{WireAddress}
 use Rattle.common_header.specs.CommonHeader.{hostLength}
 use Rattle.address_header.specs.AddressHeader.{kindOf, lengthOfKinds, addressLength}
-use Rattle.address_header.specs.Encoding.{serviceBytes, rawOf, hostOnWire, onWire, wireHostBytes, wireLength, wireBytes, wireFits, wireEncoding, hostBytes, addressBytes}
+use Rattle.address_header_encoding.specs.Encoding.{serviceBytes, rawOf, hostOnWire, onWire, wireHostBytes, wireLength, wireBytes, wireFits, wireEncoding, hostBytes, addressBytes}
 
 pub length-rawOf : (h : MaybeEncoded) (bytes : List ℕ) → length bytes ≡ 16 → length (rawOf h bytes) ≡ 16
 unfolding rawOf serviceBytes

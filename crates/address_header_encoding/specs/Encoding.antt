@@ -11,14 +11,14 @@ use Rattle.address.specs.declared.host.HostAddr.the-variants.{V4, V6, Svc}
 use Rattle.common_header_encoding.specs.declared.error.EncodeError.the-variants.{NumberTooWide, InadequateBufferSize}
 use Rattle.common_header_encoding.specs.declared.error.Encoded.{Encoded}
 use Rattle.common_header_encoding.specs.declared.error.Encoded.the-variants.{Done, Refused}
 use Rattle.address_header.specs.declared.MaybeEncoded.{MaybeEncoded}
 use Rattle.address_header.specs.declared.MaybeEncoded.the-variants as host
 use Rattle.address_header.specs.declared.HostAddress.{HostAddress}
 use Rattle.address_header.specs.declared.AddressHeader.{AddressHeader}
-use Rattle.address_header.specs.declared.WireHost.{WireHost}
-use Rattle.address_header.specs.declared.WireAddress.{WireAddress}
+use Rattle.address_header_encoding.specs.declared.WireHost.{WireHost}
+use Rattle.address_header_encoding.specs.declared.WireAddress.{WireAddress}
 use Rattle.common_header.specs.CommonHeader.{hostLength}
 use Rattle.address_header.specs.AddressHeader.{kindOf, lengthOfKinds}
 
 -- a service is its number, 2 bytes, then 2 padding bytes of zero; any other host is its first bytes
 unfoldable pub serviceBytes : ℕ → List ℕ

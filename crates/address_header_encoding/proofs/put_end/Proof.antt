@@ -1,10 +1,10 @@
 -- `put_end` meets its contract: the number and the host lie apart, so their order doesn't matter.
 use native.Mathlib.Omega.{arith}
-use Rattle.address_header.specs.Encoding.{wireHostBytes}
-use Rattle.address_header.proofs.EncodingLaws.{end-written}
+use Rattle.address_header_encoding.specs.Encoding.{wireHostBytes}
+use Rattle.address_header_encoding.proofs.EncodingLaws.{end-written}
 use borrow.Author.Needs.{needs}
-use Rattle.address_header.proofs.put_end.Statement.{statement}
-use Rattle.address_header.proofs.put_end.Tie as tie
+use Rattle.address_header_encoding.proofs.put_end.Statement.{statement}
+use Rattle.address_header_encoding.proofs.put_end.Tie as tie
 
 put-requires : tie.Need-put-requires
 put-requires c κs = search needs

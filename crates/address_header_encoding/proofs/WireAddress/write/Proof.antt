@@ -2,12 +2,12 @@
 use mathlib.Core.Path.{ap}
 use Prim.Native.Nat.{ℕ, _+_}
 use native.Mathlib.Omega.{arith}
 use Rattle.address_header.specs.AddressHeader.{lengthOfKinds}
-use Rattle.address_header.specs.Encoding.{wireLength}
-use Rattle.address_header.proofs.EncodingLaws.{WireSixteen, ends-written}
+use Rattle.address_header_encoding.specs.Encoding.{wireLength}
+use Rattle.address_header_encoding.proofs.EncodingLaws.{WireSixteen, ends-written}
 use borrow.Author.Needs.{needs}
-use Rattle.address_header.proofs.WireAddress.write.Statement.{statement}
-use Rattle.address_header.proofs.WireAddress.write.Tie as tie
+use Rattle.address_header_encoding.proofs.WireAddress.write.Statement.{statement}
+use Rattle.address_header_encoding.proofs.WireAddress.write.Tie as tie
 
 add-hosts : tie.Need-add-hosts
 add-hosts c = search needs

@@ -1,9 +1,9 @@
 -- `WireAddress::check` meets its contract: the same tests in the same order.
 use borrow.Author.Tests.{lt-ltb, le-ltb, eq-eqb, ne-eqb}
-use Rattle.address_header.specs.Encoding.{wireFits, wireEncoding}
+use Rattle.address_header_encoding.specs.Encoding.{wireFits, wireEncoding}
 use borrow.Author.Needs.{needs}
-use Rattle.address_header.proofs.WireAddress.check.Statement.{statement}
-use Rattle.address_header.proofs.WireAddress.check.Tie as tie
+use Rattle.address_header_encoding.proofs.WireAddress.check.Statement.{statement}
+use Rattle.address_header_encoding.proofs.WireAddress.check.Tie as tie
 
 returns : tie.Need-returns
 unfolding wireFits wireEncoding

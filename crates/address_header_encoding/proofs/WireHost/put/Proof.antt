@@ -5,11 +5,11 @@ use native.Mathlib.Omega.{arith}
 use lib.ListN.{length, take}
 use lib.Seq.{sets}
 use Rattle.common_header.specs.CommonHeader.{hostLength}
-use Rattle.address_header.specs.Encoding.{wireHostBytes}
-use Rattle.address_header.proofs.EncodingLaws.{Written, host-words, length-written, word-written}
+use Rattle.address_header_encoding.specs.Encoding.{wireHostBytes}
+use Rattle.address_header_encoding.proofs.EncodingLaws.{Written, host-words, length-written, word-written}
 use borrow.Author.Needs.{needs}
-use Rattle.address_header.proofs.WireHost.put.Statement.{statement}
-use Rattle.address_header.proofs.WireHost.put.Tie as tie
+use Rattle.address_header_encoding.proofs.WireHost.put.Statement.{statement}
+use Rattle.address_header_encoding.proofs.WireHost.put.Tie as tie
 
 abbrev Inv-loop : tie.InvT-loop
 Inv-loop dst₀ at len bytes done₀ dst done = Written bytes dst₀ at len dst done

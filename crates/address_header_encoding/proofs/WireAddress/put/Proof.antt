@@ -3,11 +3,11 @@ use mathlib.Core.Path.{_≡_}
 use native.Mathlib.Omega.{arith}
 use lib.ListN.{length}
 use Rattle.wire_encoding.proofs.Writes.{done, refused}
-use Rattle.address_header.specs.Encoding.{wireLength, wireBytes}
-use Rattle.address_header.proofs.EncodingLaws.{length-wireBytes}
+use Rattle.address_header_encoding.specs.Encoding.{wireLength, wireBytes}
+use Rattle.address_header_encoding.proofs.EncodingLaws.{length-wireBytes}
 use borrow.Author.Needs.{needs}
-use Rattle.address_header.proofs.WireAddress.put.Statement.{statement}
-use Rattle.address_header.proofs.WireAddress.put.Tie as tie
+use Rattle.address_header_encoding.proofs.WireAddress.put.Statement.{statement}
+use Rattle.address_header_encoding.proofs.WireAddress.put.Tie as tie
 
 encoded-length-requires : tie.Need-encoded-length-requires
 encoded-length-requires c κs = search needs

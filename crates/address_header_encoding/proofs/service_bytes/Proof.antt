@@ -5,10 +5,10 @@ use lib.ListN.{replicate}
 use Rattle.wire_encoding.specs.BigEndian.{bytesOf}
 use Rattle.wire_encoding.proofs.Numbers.{length-bytesOf}
 use Rattle.wire_encoding.proofs.Writes.{placed-is}
-use Rattle.address_header.specs.Encoding.{serviceBytes}
+use Rattle.address_header_encoding.specs.Encoding.{serviceBytes}
 use borrow.Author.Needs.{needs}
-use Rattle.address_header.proofs.service_bytes.Statement.{statement}
-use Rattle.address_header.proofs.service_bytes.Tie as tie
+use Rattle.address_header_encoding.proofs.service_bytes.Statement.{statement}
+use Rattle.address_header_encoding.proofs.service_bytes.Tie as tie
 
 slice-aggregate-put-u16 : tie.Need-slice-aggregate-put-u16
 slice-aggregate-put-u16 c = search needs
