@@ -46,9 +46,9 @@ fn hops(line: &[u8]) {
     let length = words::bytes_at(line, 2, &mut room);
     let bytes = &room[..length];
     let path_type = words::u8_at(line, 1);
-    let answer = run::locate(DataplanePath::new(path_type), bytes).answer;
+    let answer = path_hop_fields::locate(DataplanePath::new(path_type), bytes).answer;
     print::answer(answer);
-    let hop_fields = run::of_path(DataplanePath::new(path_type), bytes);
+    let hop_fields = path_hop_fields::hop_fields(DataplanePath::new(path_type), bytes);
     print::number(run::count(hop_fields) as u64);
     print::bytes(hop_fields);
 }

@@ -1,31 +1,22 @@
--- Worked examples, computed: runs of one, two and three hop fields read until nothing is left, bytes that are no run, the run of a path.
+-- Worked examples, computed: runs of one, two and three hop fields read until nothing is left, bytes that are no run.
 -- Assumes nothing.
 use Prim.Native.Nat.{ℕ}
 use mathlib.Core.Path.{_≡_, refl}
 use mathlib.Core.List.{List, [], _∷_, _++_}
-use lib.ListN.{replicate, take}
-use Rattle.wire_encoding.specs.BigEndian.{bigEndian, numberAt, room}
 use Rattle.path_error.specs.Errors.{answerNumber}
 use Rattle.path_fields.specs.Fields.{hopFieldAt, zeroHopField, newHopField}
-use Rattle.path_meta_header.specs.MetaHeader as meta
-use Rattle.path.specs.Standard as standard
-use Rattle.path.specs.Dataplane as dataplane
 use Rattle.hop_fields.specs.Run as run
 use Rattle.hop_fields.specs.Reads.{front, back, given, left, leftBy}
 
 -- three hop fields
-abbrev a : List ℕ
+abbrev pub a : List ℕ
 a = 0x00 ∷ 0x3F ∷ 0x00 ∷ 0x00 ∷ 0x00 ∷ 0x05 ∷ 0xA0 ∷ 0xA1 ∷ 0xA2 ∷ 0xA3 ∷ 0xA4 ∷ 0xA5 ∷ []
 
-abbrev b : List ℕ
+abbrev pub b : List ℕ
 b = 0x01 ∷ 0x40 ∷ 0x00 ∷ 0x07 ∷ 0x00 ∷ 0x08 ∷ 0xB0 ∷ 0xB1 ∷ 0xB2 ∷ 0xB3 ∷ 0xB4 ∷ 0xB5 ∷ []
 
-abbrev c : List ℕ
+abbrev pub c : List ℕ
 c = 0x02 ∷ 0x41 ∷ 0x00 ∷ 0x09 ∷ 0x00 ∷ 0x00 ∷ 0xC0 ∷ 0xC1 ∷ 0xC2 ∷ 0xC3 ∷ 0xC4 ∷ 0xC5 ∷ []
-
--- a path of a segment with one of them and a segment with the others, and a byte that follows it
-abbrev path : List ℕ
-path = (0x00 ∷ 0x00 ∷ 0x10 ∷ 0x80 ∷ []) ++ (replicate 16 0 ++ ((a ++ (b ++ c)) ++ (0xFF ∷ [])))
 
 pub three-read : (given front (a ++ (b ++ c)) ≡ a)
     × ((given back (leftBy (front ∷ []) (a ++ (b ++ c))) ≡ c)
@@ -49,16 +40,3 @@ one-read = refl
 pub thirteen-bytes : (answerNumber (run.answer (0xFF ∷ a)) ≡ 9) × ((run.whole (0xFF ∷ a) ≡ []) × (answerNumber (run.answer a) ≡ 0))
 unfolding run.answer run.whole
 thirteen-bytes = (refl, (refl, refl))
-
--- after two info fields; 8 for a path of another type, 1 for one cut short
-pub path-run : (dataplane.partIn path (run.located 1 path .part) ≡ a ++ (b ++ c))
-    × ((answerNumber (run.located 2 path .answer) ≡ 8)
-    × ((dataplane.partIn path (run.located 2 path .part) ≡ [])
-    × (answerNumber (run.located 1 (take 55 path) .answer) ≡ 1)))
-unfolding bigEndian numberAt room run.located
-    meta.nthField meta.metaOf meta.infoFieldsCount meta.hopFieldsCount meta.segmentOf meta.pathLength meta.lengthsValid meta.infoValid meta.hopValid
-    meta.firstRefusal meta.checked meta.settled meta.metaRead meta.readMeta
-    standard.complete standard.pathRefused standard.readPath
-    dataplane.unread dataplane.standardRead dataplane.readDataplane dataplane.answerRefused dataplane.standardAnswer dataplane.standardOf
-    dataplane.carriedOut dataplane.onStandard dataplane.notLocated
-path-run = (refl, (refl, (refl, refl)))

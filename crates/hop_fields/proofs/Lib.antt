@@ -3,5 +3,4 @@ pub mod Examples
 pub mod Held
 pub mod Lent
 pub mod Parts
-pub mod PathRuns
 pub mod Taken

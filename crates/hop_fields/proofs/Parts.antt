@@ -1,17 +1,13 @@
--- Parts at the ends of a run, and where the run of a path lies.
+-- Parts at the ends of a run.
 -- Assumes nothing.
-use Prim.Native.Nat.{ℕ, _+_, _-_, _≤_, _<_}
+use Prim.Native.Nat.{ℕ, _-_, _≤_, _<_}
 use mathlib.Core.Path.{_≡_, sym, ap, subst}
 use mathlib.Core.List.{List, []}
 use native.Mathlib.Nat.{le-refl}
 use native.Mathlib.Omega.{arith}
 use lib.ListN.{length, take, drop, length-drop, drop-of-length-le}
 use lib.Seq.{take-all}
-use Rattle.path_meta_header.specs.MetaHeader.{pathLength}
-use Rattle.path.specs.Dataplane.{notLocated}
-use Rattle.path.specs.declared.dataplane.Located.{Located}
-use Rattle.path.proofs.Reading.{carried}
-use Rattle.hop_fields.specs.Run.{afterFirst, beforeLast, located}
+use Rattle.hop_fields.specs.Run.{afterFirst, beforeLast}
 
 -- a part that goes to the end of the list is what is left after dropping
 pub to-the-end : (n : ℕ) (run : List ℕ) → take (length run - n) (drop n run) ≡ drop n run
@@ -25,10 +21,3 @@ pub nothing-before : (run : List ℕ) → length run < 12 → [] ≡ beforeLast 
 nothing-before run short =
     let none : 0 ≡ length run - 12 = omega arith in
     ap (λ (n : ℕ). take n run) none
-
--- the hop fields of a path lie among its bytes
-pub located-inside : (type : ℕ) (bytes : List ℕ) → located type bytes .part .start + located type bytes .part .len ≤ length bytes
-unfolding located notLocated pathLength
-located-inside type bytes =
-    carried bytes (λ (r : Located). r .part .start + r .part .len ≤ length bytes) type _ _ (λ error. omega arith)
-    (λ path readable. omega (arith, readable .whole))

@@ -4,10 +4,7 @@ use mathlib.Core.Path.{_≡_}
 use mathlib.Core.List.{List, [], _∷_, _++_}
 use lib.ListN.{length}
 use Rattle.wire_encoding.specs.BigEndian.{part}
-use Rattle.path_meta_header.specs.MetaHeader.{hopFieldsCount, firstHopField, segmentLengthOf}
-use Rattle.path_error.specs.declared.Answer.the-variants.{Accepted}
-use Rattle.path.specs.Dataplane.{standardOf, segmentIn, hopFieldIn, partIn}
-use Rattle.hop_fields.specs.Run.{count, first, afterFirst, last, beforeLast, hopField, hopFields, located}
+use Rattle.hop_fields.specs.Run.{count, first, afterFirst, last, beforeLast, hopField, hopFields}
 
 -- where a read is made: `next` at the front, `next_back` at the back
 pub data End : Type 0 where
@@ -68,24 +65,3 @@ pub record Read (run : List ℕ) (reads : List End) : Type 0 where
 
 unfoldable pub FromEitherEnd : Type 0
 FromEitherEnd = (run : List ℕ) → length run % 12 ≡ 0 → (reads : List End) → length reads ≤ count run → Read run reads
-
--- THE RUNS OF A PATH: hop field j of a segment's run, and of the whole path's, is the path's own at its place
-
-pub record SegmentRun (type : ℕ) (bytes : List ℕ) (k : ℕ) : Type 0 where
-  pub count : count (partIn bytes (segmentIn type bytes k .«hop_fields»)) ≡ segmentLengthOf (segmentIn type bytes k .path .«meta_header») k
-  pub hop-field :
-      (j : ℕ) → j < segmentLengthOf (segmentIn type bytes k .path .«meta_header») k →
-      hopField (partIn bytes (segmentIn type bytes k .«hop_fields»)) j
-      ≡ partIn bytes (hopFieldIn type bytes (firstHopField (segmentIn type bytes k .path .«meta_header») k + j) .part)
-
-unfoldable pub SegmentRuns : Type 0
-SegmentRuns = (type : ℕ) (bytes : List ℕ) (k : ℕ) → segmentIn type bytes k .answer ≡ Accepted → SegmentRun type bytes k
-
-pub record PathRun (type : ℕ) (bytes : List ℕ) : Type 0 where
-  pub count : count (partIn bytes (located type bytes .part)) ≡ hopFieldsCount (standardOf type bytes .path .«meta_header»)
-  pub hop-field :
-      (j : ℕ) → j < hopFieldsCount (standardOf type bytes .path .«meta_header») →
-      hopField (partIn bytes (located type bytes .part)) j ≡ partIn bytes (hopFieldIn type bytes j .part)
-
-unfoldable pub PathRuns : Type 0
-PathRuns = (type : ℕ) (bytes : List ℕ) → standardOf type bytes .answer ≡ Accepted → PathRun type bytes

@@ -5,14 +5,10 @@ use lib.ListN.{length, take, drop}
 use lib.Dec.{ltb, eqb}
 use Rattle.wire_encoding.specs.Choice.{pick}
 use Rattle.wire_encoding.specs.BigEndian.{part}
-use Rattle.path_meta_header.specs.MetaHeader.{hopFieldsCount}
 use Rattle.path_fields.specs.Fields.{newHopField}
 use Rattle.path_error.specs.declared.Answer.{Answer}
 use Rattle.path_error.specs.declared.Answer.the-variants.{Accepted, Refused}
 use Rattle.path_error.specs.declared.PathError.the-variants.{InadequateBufferSize}
-use Rattle.path.specs.Segment.{hopStart}
-use Rattle.path.specs.Dataplane.{onStandard, notLocated}
-use Rattle.path.specs.declared.dataplane.Located.{Located}
 use Rattle.hop_fields.specs.declared.view.Ends.{Ends}
 
 -- whether bytes are a run: 9 where their number is no multiple of 12
@@ -59,10 +55,3 @@ endsOf front back n = record { first = newHopField front .field; last = newHopFi
 
 unfoldable pub ends : List ℕ → Ends
 ends run = endsOf (first run) (last (afterFirst run)) (count (beforeLast (afterFirst run)))
-
--- where all hop fields of a standard path lie: reading, then 8 for every other type
-unfoldable pub located : ℕ → List ℕ → Located
-located type bytes =
-    onStandard type bytes notLocated
-    (λ path.
-    record { answer = Accepted; path = path; part = record { start = hopStart (path .«meta_header») 0; len = hopFieldsCount (path .«meta_header») * 12 } })

@@ -1,13 +1,8 @@
 // A run of hop fields as bytes: the hop field at either end, what is left without it, how many there are.
-use path::dataplane::DataplanePath;
-use path::dataplane::Located;
 use path_error::Answer;
 use path_error::PathError;
 use path_fields::HopField;
-use path_fields::InfoField;
-use path_meta_header::PathMetaHeader;
 ghost use mathlib.Core.Path.{_≡_};
-ghost use Rattle.path.specs.Dataplane.{partIn};
 ghost use Rattle.hop_fields.specs.Run as spec;
 
 // Whether bytes are a run of hop fields: their number has to be a multiple of 12.
@@ -75,36 +70,4 @@ pub fn before_last<'a>(run: &'a [u8]) -> &'a [u8]
         return &run[..0];
     }
     &run[..run.len() - HopField::LENGTH]
-}
-
-// Where the hop fields of a standard path lie, all of them.
-pub fn locate(path: DataplanePath, bytes: &[u8]) -> Located
-    ensures { λ r. ⌜ r ≡ spec.located (path .«path_type») (now (bytes .entry)) ⌝ }
-{
-    let read = path.standard(bytes);
-    let answer = read.answer;
-    let standard = read.path;
-    let meta_header = standard.meta_header;
-    match answer {
-        Answer::Accepted => {
-            let start = PathMetaHeader::LENGTH
-                + meta_header.info_fields_count() * InfoField::LENGTH;
-            Located::accepted(
-                standard,
-                start,
-                meta_header.hop_fields_count() * HopField::LENGTH,
-            )
-        }
-        Answer::Refused(error) => Located::refused(error),
-    }
-}
-
-// The hop fields of a standard path, all of them, as a part of its bytes; empty where `locate` refuses.
-pub fn of_path(path: DataplanePath, bytes: &[u8]) -> &[u8]
-    ensures { λ r. ⌜ now r ≡ partIn (now (bytes .entry)) (spec.located (path .«path_type») (now (bytes .entry)) .part) ⌝ }
-{
-    let part = locate(path, bytes).part;
-    let start = part.start;
-    let end = start + part.len;
-    &bytes[start..end]
 }

@@ -1,10 +1,10 @@
--- `of_path` meets its contract: the part lies among the bytes.
+-- `hop_fields` meets its contract: the part lies among the bytes.
 use native.Mathlib.Omega.{arith}
 use native.Mathlib.Nat.{add-sub-cancel-left}
-use Rattle.hop_fields.proofs.Parts.{located-inside}
+use Rattle.path_hop_fields.proofs.Inside.{located-inside}
 use borrow.Author.Needs.{needs}
-use Rattle.hop_fields.proofs.run.of_path.Statement.{statement}
-use Rattle.hop_fields.proofs.run.of_path.Tie as tie
+use Rattle.path_hop_fields.proofs.hop_fields.Statement.{statement}
+use Rattle.path_hop_fields.proofs.hop_fields.Tie as tie
 
 locate-requires : tie.Need-locate-requires
 locate-requires c κs = search needs
@@ -24,7 +24,7 @@ part-result-end c = let a = c .before .before .before .before .args in omega (ar
 returns : tie.Need-returns
 returns c = rw (add-sub-cancel-left, c .before .before .before .locate .ensures)
 
-pub of-path-spec : {M : Type 1} → statement M
-of-path-spec =
+pub hop-fields-spec : {M : Type 1} → statement M
+hop-fields-spec =
     tie.close
     (tie.spec locate-requires add-end sub-result part-result-start part-result-end returns)

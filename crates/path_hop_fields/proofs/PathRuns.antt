@@ -20,8 +20,9 @@ use Rattle.path.specs.Segment.{hopStart, noSegment, segmentOfPath}
 use Rattle.path.specs.Dataplane.{standardOf, carriedOut, onStandard, locatedAt, segmentIn, hopFieldIn, partIn}
 use Rattle.path.proofs.SegmentLaws.{segment-within}
 use Rattle.path.proofs.Reading.{standard-readable}
-use Rattle.hop_fields.specs.Run.{count, hopField, located}
-use Rattle.hop_fields.specs.Reads.{SegmentRuns, PathRuns}
+use Rattle.hop_fields.specs.Run.{count, hopField}
+use Rattle.path_hop_fields.specs.PathRuns.{located}
+use Rattle.path_hop_fields.specs.PathRuns.{SegmentRuns, PathRuns}
 
 -- no answer is both
 never : {error : PathError} → Refused error ≡ Accepted → ⊥

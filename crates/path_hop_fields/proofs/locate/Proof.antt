@@ -1,10 +1,10 @@
 -- `locate` meets its contract: the order of calls on standard paths, then the two counts.
 use native.Mathlib.Nat.{add-zero}
-use Rattle.hop_fields.specs.Run as spec
+use Rattle.path_hop_fields.specs.PathRuns as spec
 use Rattle.path.specs.Dataplane.{onStandard, carriedOut}
 use borrow.Author.Needs.{needs}
-use Rattle.hop_fields.proofs.run.locate.Statement.{statement}
-use Rattle.hop_fields.proofs.run.locate.Tie as tie
+use Rattle.path_hop_fields.proofs.locate.Statement.{statement}
+use Rattle.path_hop_fields.proofs.locate.Tie as tie
 
 standard-requires : tie.Need-standard-requires
 standard-requires c κs = search needs

@@ -1,0 +1,42 @@
+// The hop fields of a standard path, all of them, as a run.
+use path::dataplane::DataplanePath;
+use path::dataplane::Located;
+use path_error::Answer;
+use path_fields::HopField;
+use path_fields::InfoField;
+use path_meta_header::PathMetaHeader;
+ghost use mathlib.Core.Path.{_≡_};
+ghost use Rattle.path.specs.Dataplane.{partIn};
+ghost use Rattle.path_hop_fields.specs.PathRuns as spec;
+
+// Where the hop fields of a standard path lie, all of them.
+pub fn locate(path: DataplanePath, bytes: &[u8]) -> Located
+    ensures { λ r. ⌜ r ≡ spec.located (path .«path_type») (now (bytes .entry)) ⌝ }
+{
+    let read = path.standard(bytes);
+    let answer = read.answer;
+    let standard = read.path;
+    let meta_header = standard.meta_header;
+    match answer {
+        Answer::Accepted => {
+            let start = PathMetaHeader::LENGTH
+                + meta_header.info_fields_count() * InfoField::LENGTH;
+            Located::accepted(
+                standard,
+                start,
+                meta_header.hop_fields_count() * HopField::LENGTH,
+            )
+        }
+        Answer::Refused(error) => Located::refused(error),
+    }
+}
+
+// The hop fields of a standard path, all of them, as a part of its bytes; empty where `locate` refuses.
+pub fn hop_fields(path: DataplanePath, bytes: &[u8]) -> &[u8]
+    ensures { λ r. ⌜ now r ≡ partIn (now (bytes .entry)) (spec.located (path .«path_type») (now (bytes .entry)) .part) ⌝ }
+{
+    let part = locate(path, bytes).part;
+    let start = part.start;
+    let end = start + part.len;
+    &bytes[start..end]
+}
