@@ -1,19 +1,19 @@
 -- The lengths of what is written of an address header, and its writes put together.
 -- Assumes nothing.
-use mathlib.Core.Path.{_≡_, refl, sym, ap, _∙_}
+use mathlib.Core.Path.{_≡_, refl, sym, ap, ap₂, _∙_}
 use mathlib.Core.Bool.{Bool, true, false}
 use mathlib.Core.List.{List, [], _∷_, _++_}
 use Prim.Native.Nat.{ℕ, suc, _+_, _%_, _≤_, _<_}
 use native.Mathlib.Omega.{arith}
-use lib.ListN.{length, take, set, replicate, length-take, length-append}
+use lib.ListN.{length, take, drop, set, replicate, length-take, length-append}
 use lib.Seq.{sets, length-sets, length-take-le, take-add}
 use lib.Dec.{eqb}
 use borrow.Author.Tests.{eqb-true}
 use Rattle.wire_encoding.specs.Choice.{pick, orZero}
 use Rattle.wire_encoding.specs.BigEndian.{bytesOf, numberAt, part, placed}
-use Rattle.wire_encoding.proofs.Parts.{Bytes, sets-append, set-sets}
-use Rattle.wire_encoding.proofs.Numbers.{length-bytesOf}
-use Rattle.wire_encoding.proofs.Writes.{placed-is, number-copied}
+use Rattle.wire_encoding.proofs.Parts.{Bytes, written-after, set-sets}
+use Rattle.wire_encoding.proofs.Numbers.{or-zero-is, length-bytesOf, bytes-read}
+use Rattle.wire_encoding.proofs.Writes.{placed-is, lent-written}
 use Rattle.address.specs.declared.host.HostAddr.the-variants.{V4, V6, Svc}
 use Rattle.common_header_encoding.specs.declared.error.EncodeError.the-variants.{NumberTooWide, InadequateBufferSize}
 use Rattle.common_header_encoding.specs.declared.error.Encoded.{Encoded}
@@ -97,9 +97,8 @@ wire-done w n h = go (wireFits w) (eqb n (wireLength w)) refl h
 -- WRITES
 
 -- one run after another, at `next`, where the first ends
-written-after : (xs ys dst : List ℕ) (at n next : ℕ) → length xs ≡ n → at + n ≡ next → sets (sets dst at xs) next ys ≡ sets dst at (xs ++ ys)
-written-after xs ys dst at n next size e =
-    sym (sets-append xs ys dst at ∙ ap (λ (m : ℕ). sets (sets dst at xs) m ys) (ap (λ (m : ℕ). at + m) size ∙ e))
+written-next : (xs ys dst : List ℕ) (at n next : ℕ) → length xs ≡ n → at + n ≡ next → sets (sets dst at xs) next ys ≡ sets dst at (xs ++ ys)
+written-next xs ys dst at n next size e = ap (λ (m : ℕ). sets (sets dst at xs) m ys) (sym e) ∙ written-after xs ys dst at n size
 
 -- whole words of a run, of which those before `done` are written
 pub record Written (bytes dst₀ : List ℕ) (at len : ℕ) (dst : List ℕ) (done : ℕ) : Type 0 where
@@ -116,16 +115,24 @@ module _ {bytes dst₀ : List ℕ} {at len : ℕ} {dst : List ℕ} {done : ℕ} 
   pub length-written : length dst ≡ length dst₀
   length-written = ap length (w .so-far) ∙ length-sets dst₀ at (take done bytes)
 
+  -- where there is more, there is room for a whole word
+  pub word-room : done < len → at + len ≤ length dst₀ → at + done + 4 ≤ length dst
+  word-room more room = omega (arith, length-written)
+
   -- the next word goes over as a number, and the bytes of a number that was read are the bytes that were read
   pub word-written : Bytes bytes → done < len → len ≤ length bytes → at + len ≤ length dst₀ → {n : ℕ} → n ≡ orZero (numberAt 4 bytes done)
-      → {next : List ℕ} → next ≡ placed dst (at + done) (bytesOf 4 n) → Written bytes dst₀ at len next (done + 4)
-  word-written b more few room {n} read e =
-      let kept : length dst ≡ length dst₀ = length-written in
+      → (k : ℕ) → k ≡ 4 → {now : List ℕ} → now ≡ placed (part (at + done) k dst) 0 (bytesOf 4 n)
+      → Written bytes dst₀ at len (take (at + done) dst ++ (now ++ drop k (drop (at + done) dst))) (done + 4)
+  word-written b more few room {n} read k four e =
+      let inside : at + done + 4 ≤ length dst = word-room more room in
+      let there : done + 4 ≤ length bytes = omega arith in
+      let word : bytesOf 4 n ≡ part done 4 bytes =
+      ap (bytesOf 4) (read ∙ or-zero-is 4 bytes done there) ∙ bytes-read 4 bytes b done there in
       record {
         so-far =
-            number-copied 4 bytes dst done (at + done) b (omega arith) (omega arith) read e
-            ∙ ap (λ (l : List ℕ). sets l (at + done) (part done 4 bytes)) (w .so-far)
-            ∙ written-after (take done bytes) (part done 4 bytes) dst₀ at done (at + done) (length-take-le done bytes (omega arith)) refl
+            lent-written (bytesOf 4 n) dst (at + done) k (length-bytesOf 4 n ∙ sym four) (omega arith) e
+            ∙ ap₂ (λ (l run : List ℕ). sets l (at + done) run) (w .so-far) word
+            ∙ written-next (take done bytes) (part done 4 bytes) dst₀ at done (at + done) (length-take-le done bytes (omega arith)) refl
             ∙ ap (sets dst₀ at) (sym (take-add done 4 bytes));
         words = w .words;
         at-word = omega arith;
@@ -169,6 +176,6 @@ module _ (w : WireAddress) (s : WireSixteen w) (dst : List ℕ) (at : ℕ) where
       e₂
       ∙ ap (λ (l : List ℕ). sets (sets l (at + 8) from) last end) e₁
       ∙ ap (λ (l : List ℕ). sets l last end) (sym (sets-apart from host first (at + 8) (at + 16) (omega arith)))
-      ∙ written-after host end (sets first (at + 8) from) (at + 16) _ last (length-wireHostBytes (w .destination) (s .destination-sixteen)) (sym after)
-      ∙ written-after from (host ++ end) first (at + 8) 8 (at + 16) eight (omega arith)
-      ∙ written-after to (from ++ (host ++ end)) dst at 8 (at + 8) (length-bytesOf 8 _) refl
+      ∙ written-next host end (sets first (at + 8) from) (at + 16) _ last (length-wireHostBytes (w .destination) (s .destination-sixteen)) (sym after)
+      ∙ written-next from (host ++ end) first (at + 8) 8 (at + 16) eight (omega arith)
+      ∙ written-next to (from ++ (host ++ end)) dst at 8 (at + 8) (length-bytesOf 8 _) refl

@@ -61,7 +61,11 @@ impl WireHost {
         let bytes = self.bytes;
         let mut done: usize = 0;
         while done < len {
-            put_u32(dst, at + done, u32_or_zero(&bytes, done));
+            put_u32(
+                &mut dst[at + done..at + done + 4],
+                0,
+                u32_or_zero(&bytes, done),
+            );
             done += 4;
         }
     }

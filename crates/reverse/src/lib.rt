@@ -29,7 +29,11 @@ fn reverse_info_field(src: &[u8], from: usize, dst: &mut [u8], to: usize)
     requires { ⌜ (from + 8 ≤ length (now src)) × (to + 8 ≤ length (now dst)) ⌝ }
     ensures { λ _. ⌜ now (dst .exit) ≡ sets (now (dst .entry)) to (spec.flipped (part from 8 (now (src .entry)))) ⌝ }
 {
-    put_u64(dst, to, u64_or_zero(src, from));
+    put_u64(
+        &mut dst[to..to + 8],
+        0,
+        u64_or_zero(&src[from..from + 8], 0),
+    );
     dst[to] = src[from] ^ InfoField::CONSTRUCTION_DIRECTION_FLAG;
 }
 
@@ -38,8 +42,16 @@ fn copy_hop_field(src: &[u8], from: usize, dst: &mut [u8], to: usize)
     requires { ⌜ (from + 12 ≤ length (now src)) × (to + 12 ≤ length (now dst)) ⌝ }
     ensures { λ _. ⌜ now (dst .exit) ≡ sets (now (dst .entry)) to (part from 12 (now (src .entry))) ⌝ }
 {
-    put_u64(dst, to, u64_or_zero(src, from));
-    put_u32(dst, to + 8, u32_or_zero(src, from + 8));
+    put_u64(
+        &mut dst[to..to + 8],
+        0,
+        u64_or_zero(&src[from..from + 8], 0),
+    );
+    put_u32(
+        &mut dst[to + 8..to + 12],
+        0,
+        u32_or_zero(&src[from + 8..from + 12], 0),
+    );
 }
 
 // Writes `count` info fields of `src` from `from` on to `dst`, the last one first, each with its direction bit flipped.

@@ -1,12 +1,12 @@
 -- `WireHost::put` meets its contract: a host is whole words, so the loop ends where the host does.
 use mathlib.Core.Path.{_≡_, refl, ap, _∙_}
-use Prim.Native.Nat.{ℕ, _-_}
+use Prim.Native.Nat.{ℕ, _+_, _-_, _≤_}
 use native.Mathlib.Omega.{arith}
 use lib.ListN.{length, take}
 use lib.Seq.{sets}
 use Rattle.common_header.specs.CommonHeader.{hostLength}
 use Rattle.address_header_encoding.specs.Encoding.{wireHostBytes}
-use Rattle.address_header_encoding.proofs.EncodingLaws.{Written, host-words, length-written, word-written}
+use Rattle.address_header_encoding.proofs.EncodingLaws.{Written, host-words, length-written, word-room, word-written}
 use borrow.Author.Needs.{needs}
 use Rattle.address_header_encoding.proofs.WireHost.put.Statement.{statement}
 use Rattle.address_header_encoding.proofs.WireHost.put.Tie as tie
@@ -28,8 +28,26 @@ loop-holds c = record {
   passed = omega arith;
 }
 
+room : (c : tie.In-loop Inv-loop μ-loop) → c .before .before .before .before .before .args .at + c .before .loop .done + 4 ≤ length (c .before .loop .dst)
+room c = word-room (c .before .loop .inv) (c .loop-test .taken) (omega (arith, c .before .before .before .encoded-length .ensures .0))
+
 add-put-u32 : tie.Need-add-put-u32 Inv-loop μ-loop
-add-put-u32 c = omega (arith, c .before .before .before .before .encoded-length .ensures .0)
+add-put-u32 c = omega (arith, room c)
+
+add-put-u32-2 : tie.Need-add-put-u32-2 Inv-loop μ-loop
+add-put-u32-2 c = omega (arith, room c)
+
+add-put-u32-3 : tie.Need-add-put-u32-3 Inv-loop μ-loop
+add-put-u32-3 c = omega (arith, room c)
+
+sub-put-u32 : tie.Need-sub-put-u32 Inv-loop μ-loop
+sub-put-u32 c = omega (arith, room c)
+
+part-put-u32-start : tie.Need-part-put-u32-start Inv-loop μ-loop
+part-put-u32-start c = omega (arith, room c)
+
+part-put-u32-end : tie.Need-part-put-u32-end Inv-loop μ-loop
+part-put-u32-end c = omega (arith, room c)
 
 slice-aggregate-u32-or-zero : tie.Need-slice-aggregate-u32-or-zero Inv-loop μ-loop
 slice-aggregate-u32-or-zero c = search needs
@@ -52,7 +70,7 @@ loop-again c =
     let start = s .before .before .before .before .before in
     let sixteen : length (start .args .self .bytes) ≡ 16 = search needs in
     let long = s .before .before .before .encoded-length .ensures in
-    word-written (s .before .loop .inv) (λ k. search needs) (s .loop-test .taken) (omega arith) (omega arith) (c .before .before .before .u32-or-zero .ensures) (c .before .before .put-u32 .ensures .1)
+    word-written (s .before .loop .inv) (λ k. search needs) (s .loop-test .taken) (omega arith) (omega arith) (c .before .before .before .u32-or-zero .ensures) (start .args .at + s .before .loop .done + 4 - (start .args .at + s .before .loop .done)) (omega arith) (c .before .before .put-u32 .ensures .1)
 
 same-length : tie.Need-same-length Inv-loop μ-loop
 same-length c = length-written (c .before .loop .inv)
@@ -73,6 +91,11 @@ put-spec =
     encoded-length-requires
     loop-holds
     add-put-u32
+    add-put-u32-2
+    add-put-u32-3
+    sub-put-u32
+    part-put-u32-start
+    part-put-u32-end
     slice-aggregate-u32-or-zero
     u32-or-zero-requires
     put-u32-requires
