@@ -11,14 +11,14 @@ use native.Mathlib.Omega.{arith}
 use lib.Dec.{eqb}
 use lib.Bits.{bitXor}
 use lib.ListN.{length, take, drop, getD, set, length-append, length-drop}
-use lib.Seq.{sets, set-set, set-comm, drop-drop, length-sets}
+use lib.Seq.{sets, take-all, drop-drop, length-sets}
 use borrow.Author.Tests.{lt-ltb, eq-eqb, ne-eqb}
 use Rattle.wire_encoding.specs.Choice.{pick}
 use Rattle.wire_encoding.specs.BigEndian.{bigEndian, bytesOf, part, placed}
 use Rattle.bits.proofs.BitLaws.{flip-bit}
-use Rattle.wire_encoding.proofs.Parts.{length-part, part-cons, part-join, written-after, sets-whole}
+use Rattle.wire_encoding.proofs.Parts.{length-part, part-join, written-after, sets-whole}
 use Rattle.wire_encoding.proofs.Numbers.{length-bytesOf, read-bytesOf}
-use Rattle.wire_encoding.proofs.Writes.{placed-is}
+use Rattle.wire_encoding.proofs.Writes.{lent-run, placed-is}
 use Rattle.path_meta_header.specs.MetaHeader.{nthField, metaOf, infoFieldsCount, hopFieldsCount, pathLength}
 use Rattle.meta_header_reversal.specs.Reversal.{atStart, reversedLengths, reversedMeta}
 use Rattle.meta_header_encoding.specs.Encoding.{fieldsFit, wordOf}
@@ -68,23 +68,27 @@ parts-written src dst from to m n h =
     written-after (part from m src) (part (from + m) n src) dst to m (length-part from m src h)
     ∙ ap (sets dst to) (part-join from m n src)
 
--- a store below a run of stores may be made before it
-set-below : (xs l : List ℕ) (at j b : ℕ) → j < at → set (sets l at xs) j b ≡ sets (set l j b) at xs
-set-below [] l at j b h = refl
-set-below (x ∷ xs) l at j b h =
-    set-below xs (set l at x) (suc at) j b (omega arith)
-    ∙ ap (λ (r : List ℕ). sets r (suc at) xs) (set-comm l at j x b (λ e. omega arith))
+-- a whole field written over another of its size
+whole-written : (src dst : List ℕ) (n : ℕ) → length src ≡ n → length dst ≡ n → sets dst 0 (part 0 n src) ≡ src
+whole-written src dst n h g = ap (sets dst 0) (take-all n src (omega arith)) ∙ sets-whole src dst (h ∙ sym g)
+
+-- a hop field: eight bytes copied, then the four after them
+pub hop-field-copied : (src dst : List ℕ) → length src ≡ 12 → length dst ≡ 12 → {d₁ d₂ : List ℕ} → d₁ ≡ sets dst 0 (part 0 8 src)
+    → d₂ ≡ sets d₁ 8 (part 8 4 src) → d₂ ≡ src
+hop-field-copied src dst h g e₁ e₂ =
+    e₂
+    ∙ ap (λ (l : List ℕ). sets l 8 (part 8 4 src)) e₁
+    ∙ parts-written src dst 0 0 8 4 (omega arith)
+    ∙ whole-written src dst 12 h g
 
 -- an info field: its flags are written over the copied ones, with bit 0 flipped by the mask
-pub flipped-written : (src dst : List ℕ) (from to : ℕ) → from < length src
-    → set (sets dst to (part from 8 src)) to (bitXor (getD src from 0) 1) ≡ sets dst to (flipped (part from 8 src))
+pub flipped-written : (src dst : List ℕ) → length src ≡ 8 → length dst ≡ 8 → {d : List ℕ} → d ≡ sets dst 0 (part 0 8 src)
+    → set d 0 (bitXor (getD src 0 0) 1) ≡ flipped src
 unfolding flipped
-flipped-written src dst from to h =
-    let flags : ℕ = getD src from 0 in
-    let rest : List ℕ = part (suc from) 7 src in
-    rw (part-cons from 7 src h, ← flip-bit 0 flags)
-    (set-below rest (set dst to flags) (suc to) to (bitXor flags 1) (omega arith)
-    ∙ ap (λ (l : List ℕ). sets l (suc to) rest) (set-set dst to flags (bitXor flags 1)))
+flipped-written [] dst h g e = absurd (omega arith)
+flipped-written (flags ∷ rest) dst h g e =
+    ap (λ (l : List ℕ). set l 0 (bitXor flags 1)) (e ∙ whole-written (flags ∷ rest) dst 8 h g)
+    ∙ ap (λ (b : ℕ). b ∷ rest) (flip-bit 0 flags)
 
 -- RECORDS, THE LAST ONE FIRST
 
@@ -110,19 +114,25 @@ module _ (f : List ℕ → List ℕ) (sized : Sized f) (k : ℕ) where
       pub in-dst : to + left * k ≤ length dst
       pub len : length dst ≡ length dst₀
 
-    pub step : (dst dst′ : List ℕ) (to left : ℕ) → 0 < left → Left dst to left
-        → dst′ ≡ sets dst to (f (part (from + (left - 1) * k) k src)) → Left dst′ (to + k) (left - 1)
+    -- the last record goes to the part that was lent for it
+    pub step : (dst now : List ℕ) (to left j m : ℕ) → 0 < left → j ≡ k → m ≡ k → Left dst to left
+        → now ≡ f (part (from + (left - 1) * k) j src) → Left (take to dst ++ (now ++ drop m (drop to dst))) (to + k) (left - 1)
     unfolding reversedRecords
-    step dst dst′ to (suc n) h i e =
+    step dst now to (suc n) j m h ej em i e =
         let more : suc n * k ≡ n * k + k = suc-mul n k in
         let last : List ℕ = f (part (n * k) k (drop from src)) in
         let rest : List ℕ = reversedRecords f k n (drop from src) in
         let size : length last ≡ k = length-record n (drop from src) (simp length-drop (omega arith)) in
-        let kept : length dst′ ≡ length dst = ap length e ∙ simp length-sets in
-        let now : dst′ ≡ sets dst to last =
-        simp sub-one at e ∙ ap (λ (bytes : List ℕ). sets dst to (f (take k bytes))) (sym (drop-drop (n * k) from src)) in
+        let field : now ≡ last =
+        simp sub-one at e
+        ∙ ap (λ (size : ℕ). f (part (from + n * k) size src)) ej
+        ∙ ap (λ (bytes : List ℕ). f (take k bytes)) (sym (drop-drop (n * k) from src)) in
+        let written : take to dst ++ (now ++ drop m (drop to dst)) ≡ sets dst to last =
+        ap (λ (run : List ℕ). take to dst ++ (run ++ drop m (drop to dst))) field
+        ∙ lent-run last dst to m (size ∙ sym em) (omega arith) in
+        let kept : length (take to dst ++ (now ++ drop m (drop to dst))) ≡ length dst = ap length written ∙ simp length-sets in
         simp sub-one (record {
-          writes = ap (λ (d : List ℕ). sets d (to + k) rest) now ∙ written-after last rest dst to k size ∙ i .writes;
+          writes = ap (λ (d : List ℕ). sets d (to + k) rest) written ∙ written-after last rest dst to k size ∙ i .writes;
           in-src = omega arith;
           in-dst = omega arith;
           len = kept ∙ i .len;

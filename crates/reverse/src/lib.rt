@@ -18,40 +18,27 @@ ghost use mathlib.Core.Bool.{true};
 ghost use Prim.Native.Nat.{_+_, _*_, _≤_};
 ghost use lib.ListN.{length, drop};
 ghost use lib.Seq.{sets};
-ghost use Rattle.wire_encoding.specs.BigEndian.{part};
 ghost use Rattle.meta_header_encoding.specs.Encoding.{fieldsFit, wordOf};
 ghost use Rattle.path_error.specs.declared.Decoded.the-variants as decoded;
 ghost use Rattle.path.specs.Standard.{readPath};
 ghost use Rattle.reverse.specs.Reverse as spec;
 
-// Writes the info field of `src` at `from` to `dst` at `to`, its direction bit flipped.
-fn reverse_info_field(src: &[u8], from: usize, dst: &mut [u8], to: usize)
-    requires { ⌜ (from + 8 ≤ length (now src)) × (to + 8 ≤ length (now dst)) ⌝ }
-    ensures { λ _. ⌜ now (dst .exit) ≡ sets (now (dst .entry)) to (spec.flipped (part from 8 (now (src .entry)))) ⌝ }
+// Writes an info field to `dst`, its direction bit flipped.
+fn reverse_info_field(src: &[u8], dst: &mut [u8])
+    requires { ⌜ (length (now src) ≡ 8) × (length (now dst) ≡ 8) ⌝ }
+    ensures { λ _. ⌜ now (dst .exit) ≡ spec.flipped (now (src .entry)) ⌝ }
 {
-    put_u64(
-        &mut dst[to..to + 8],
-        0,
-        u64_or_zero(&src[from..from + 8], 0),
-    );
-    dst[to] = src[from] ^ InfoField::CONSTRUCTION_DIRECTION_FLAG;
+    put_u64(dst, 0, u64_or_zero(src, 0));
+    dst[0] = src[0] ^ InfoField::CONSTRUCTION_DIRECTION_FLAG;
 }
 
-// Writes the hop field of `src` at `from` to `dst` at `to`.
-fn copy_hop_field(src: &[u8], from: usize, dst: &mut [u8], to: usize)
-    requires { ⌜ (from + 12 ≤ length (now src)) × (to + 12 ≤ length (now dst)) ⌝ }
-    ensures { λ _. ⌜ now (dst .exit) ≡ sets (now (dst .entry)) to (part from 12 (now (src .entry))) ⌝ }
+// Writes a hop field to `dst`.
+fn copy_hop_field(src: &[u8], dst: &mut [u8])
+    requires { ⌜ (length (now src) ≡ 12) × (length (now dst) ≡ 12) ⌝ }
+    ensures { λ _. ⌜ now (dst .exit) ≡ now (src .entry) ⌝ }
 {
-    put_u64(
-        &mut dst[to..to + 8],
-        0,
-        u64_or_zero(&src[from..from + 8], 0),
-    );
-    put_u32(
-        &mut dst[to + 8..to + 12],
-        0,
-        u32_or_zero(&src[from + 8..from + 12], 0),
-    );
+    put_u64(dst, 0, u64_or_zero(src, 0));
+    put_u32(dst, 8, u32_or_zero(src, 8));
 }
 
 // Writes `count` info fields of `src` from `from` on to `dst`, the last one first, each with its direction bit flipped.
@@ -63,7 +50,11 @@ fn reverse_info_fields(src: &[u8], from: usize, dst: &mut [u8], to: usize, count
     let mut left = count;
     while 0 < left {
         left -= 1;
-        reverse_info_field(src, from + left * InfoField::LENGTH, dst, next);
+        let at = from + left * InfoField::LENGTH;
+        reverse_info_field(
+            &src[at..at + InfoField::LENGTH],
+            &mut dst[next..next + InfoField::LENGTH],
+        );
         next += InfoField::LENGTH;
     }
 }
@@ -77,7 +68,11 @@ fn reverse_hop_fields(src: &[u8], from: usize, dst: &mut [u8], to: usize, count:
     let mut left = count;
     while 0 < left {
         left -= 1;
-        copy_hop_field(src, from + left * HopField::LENGTH, dst, next);
+        let at = from + left * HopField::LENGTH;
+        copy_hop_field(
+            &src[at..at + HopField::LENGTH],
+            &mut dst[next..next + HopField::LENGTH],
+        );
         next += HopField::LENGTH;
     }
 }

@@ -3,7 +3,7 @@
 use mathlib.Core.Path.{_≡_, refl, sym, ap, _∙_}
 use mathlib.Core.List.{List, [], _∷_, _++_, append-assoc}
 use Prim.Native.Nat.{ℕ, zero, suc, _+_, _-_, _/_, _%_, _≤_, _<_}
-use native.Mathlib.Nat.{add-zero, add-suc}
+use native.Mathlib.Nat.{add-suc}
 use native.Mathlib.Numerals.{add-one, sub-one}
 use native.Mathlib.Omega.{arith}
 use lib.ListN.{length, getD, set, take, drop, length-set, drop-of-length-le}
@@ -11,9 +11,9 @@ use lib.Seq.{sets, sets-eq, drop-cons, drop-drop, length-sets}
 use borrow.Author.Tests.{le-leb, lt-leb}
 use mathlib.Core.Bool.{Bool, true, false}
 use Rattle.wire_encoding.specs.Choice.{pick, orZero}
-use Rattle.wire_encoding.specs.BigEndian.{bigEndian, bytesOf, numberAt, part, room, placing, placed}
+use Rattle.wire_encoding.specs.BigEndian.{bytesOf, numberAt, part, room, placing, placed}
 use Rattle.wire_encoding.proofs.Parts.{Bytes, length-part, sets-append, set-sets, sets-whole}
-use Rattle.wire_encoding.proofs.Numbers.{or-zero-is, length-bytesOf, bytes-read, read-part}
+use Rattle.wire_encoding.proofs.Numbers.{or-zero-is, length-bytesOf, bytes-read}
 
 -- what is left of a number, written to dst as it is now, gives what is wanted
 pub record NumberLeft (goal dst₀ dst : List ℕ) (at left rest : ℕ) : Type 0 where
@@ -88,25 +88,25 @@ length-placed dst at run = go (room dst at (length run))
 pub placed-whole : (run dst : List ℕ) → length run ≡ length dst → placed dst 0 run ≡ run
 placed-whole run dst e = placed-is dst 0 run (length dst) e (omega arith) ∙ sets-whole run dst e
 
--- a run that fills the part that was lent is written to the whole
+-- a part that was lent, with a run of its length in its place, is the run written
+pub lent-run : (run dst : List ℕ) (to k : ℕ) → length run ≡ k → to + k ≤ length dst → take to dst ++ (run ++ drop k (drop to dst)) ≡ sets dst to run
+lent-run run dst to k size room =
+    ap (λ (r : List ℕ). take to dst ++ (run ++ r)) (drop-drop k to dst ∙ ap (λ (i : ℕ). drop (to + i) dst) (sym size))
+    ∙ sym (append-assoc (take to dst) run (drop (to + length run) dst))
+    ∙ sym (sets-eq run dst to (omega arith))
+
+-- and so is a run that fills the part
 pub lent-written : (run dst : List ℕ) (to k : ℕ) → length run ≡ k → to + k ≤ length dst → {now : List ℕ} → now ≡ placed (part to k dst) 0 run
     → take to dst ++ (now ++ drop k (drop to dst)) ≡ sets dst to run
 lent-written run dst to k size room e =
     ap (λ (r : List ℕ). take to dst ++ (r ++ drop k (drop to dst))) (e ∙ placed-whole run (part to k dst) (size ∙ sym (length-part to k dst room)))
-    ∙ ap (λ (r : List ℕ). take to dst ++ (run ++ r)) (drop-drop k to dst ∙ ap (λ (i : ℕ). drop (to + i) dst) (sym size))
-    ∙ sym (append-assoc (take to dst) run (drop (to + length run) dst))
-    ∙ sym (sets-eq run dst to (omega arith))
+    ∙ lent-run run dst to k size room
 
--- a part read as a number and written to another is the part copied, for the bytes of a number that was read are the bytes that were read
-pub number-copied : (width : ℕ) (src dst : List ℕ) (from to j k : ℕ) → Bytes src → from + width ≤ length src → to + width ≤ length dst
-    → j ≡ width → k ≡ width → {n : ℕ} → n ≡ orZero (numberAt width (part from j src) 0) → {now : List ℕ}
-    → now ≡ placed (part to k dst) 0 (bytesOf width n) → take to dst ++ (now ++ drop k (drop to dst)) ≡ sets dst to (part from width src)
-number-copied width src dst from to j k b there room ej ek {n} read e =
-    let long : length (part from j src) ≡ j = length-part from j src (omega arith) in
-    let number : n ≡ bigEndian width src from =
-    read
-    ∙ or-zero-is width (part from j src) 0 (omega arith)
-    ∙ read-part width src from j 0 (omega arith)
-    ∙ ap (bigEndian width src) (add-zero from) in
-    lent-written (bytesOf width n) dst to k (length-bytesOf width n ∙ sym ek) (omega arith) e
-    ∙ ap (sets dst to) (ap (bytesOf width) number ∙ bytes-read width src b from there)
+-- a number read and written elsewhere is its bytes copied, for the bytes of a number that was read are the bytes that were read
+pub number-copied : (width : ℕ) (src dst : List ℕ) (from to : ℕ) → Bytes src → from + width ≤ length src → to + width ≤ length dst
+    → {n : ℕ} → n ≡ orZero (numberAt width src from) → {now : List ℕ} → now ≡ placed dst to (bytesOf width n)
+    → now ≡ sets dst to (part from width src)
+number-copied width src dst from to b there room {n} read e =
+    e
+    ∙ placed-is dst to (bytesOf width n) width (length-bytesOf width n) room
+    ∙ ap (sets dst to) (ap (bytesOf width) (read ∙ or-zero-is width src from there) ∙ bytes-read width src b from there)
