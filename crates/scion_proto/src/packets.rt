@@ -1,59 +1,28 @@
 // The calls on packets: reading one, and writing the headers of one.
 use headers::ScionHeaders as Headers;
 use packet::raw::ScionPacketRaw;
-use scion_records::answer::ScionAnswer;
-use scion_records::answer::decoded_out;
-use scion_records::answer::part_out;
-use scion_records::answer::path_out;
-use scion_records::packets::ScionHeaders;
-use scion_records::packets::ScionHost;
-use scion_records::packets::ScionPacket;
-use scion_records::packets::address_in;
-use scion_records::packets::encoded_out;
-use scion_records::packets::headers_in;
-use scion_records::packets::headers_out;
-use scion_records::packets::host_out;
+use scion_answer::ScionAnswer;
+use scion_packets::ScionHeaders;
+use scion_packets::ScionHost;
+use scion_packets::ScionPacket;
+use scion_packets::address_in;
+use scion_packets::encoded_out;
+use scion_packets::headers_in;
+use scion_packets::headers_out;
+use scion_packets::packet_out;
 ghost use mathlib.Core.Path.{_≡_};
 ghost use lib.ListN.{length};
 ghost use Rattle.packet.specs.Raw.{readPacket};
 ghost use Rattle.common_header_encoding.specs.Encoding.{encoded};
 ghost use Rattle.headers.specs.Headers as headers;
-ghost use Rattle.scion_records.specs.Packets as spec;
+ghost use Rattle.scion_packets.specs.Packets as spec;
 
 // Splits the packet that begins `bytes`.
 #[no_mangle]
 pub extern "C" fn scion_read_packet(bytes: &[u8]) -> ScionPacket
     ensures { λ r. ⌜ r ≡ spec.packetOut (readPacket (now (bytes .entry))) ⌝ }
 {
-    let packet = ScionPacketRaw::decode(bytes);
-    let answer = packet.answer;
-    let common = packet.common;
-    let address = packet.address;
-    let destination_ia = address.destination_ia;
-    let source_ia = address.source_ia;
-    let to = address.destination;
-    let from = address.source;
-    let path = packet.path;
-    let path_part = packet.path_part;
-    let payload_part = packet.payload_part;
-    ScionPacket {
-        answer: decoded_out(answer),
-        path: path_out(path),
-        version: common.version,
-        traffic_class: common.traffic_class,
-        next_header: common.next_header,
-        header_length_factor: common.header_length_factor,
-        path_type: common.path_type,
-        payload_length: common.payload_length,
-        reserved: common.reserved,
-        flow_id: common.flow_id,
-        destination_ia: destination_ia.0,
-        source_ia: source_ia.0,
-        destination: host_out(to),
-        source: host_out(from),
-        path_part: part_out(path_part),
-        payload_part: part_out(payload_part),
-    }
+    packet_out(ScionPacketRaw::decode(bytes))
 }
 
 // The headers of a packet with a path of `path_len` bytes: version, traffic class and reserved 0, the factor by the lengths.

@@ -2,30 +2,29 @@
 use moves::single_move;
 use moves::walk;
 use path::dataplane::DataplanePath;
-use path::standard::Part;
 use path_copy::copy_to_slice;
-use path_fields::HopField;
-use path_fields::InfoField;
 use reverse::reverse_to_slice;
-use scion_records::answer::answer_out;
-use scion_records::answer::decoded_out;
-use scion_records::answer::part_out;
-use scion_records::answer::path_out;
-use scion_records::paths::ScionExpiry;
-use scion_records::paths::ScionHopField;
-use scion_records::paths::ScionInfoField;
-use scion_records::paths::ScionInterface;
-use scion_records::paths::ScionInterfaceCount;
-use scion_records::paths::ScionPathAnswer;
-use scion_records::paths::ScionPathRead;
-use scion_records::paths::ScionSegment;
-use scion_records::paths::ScionTimeLeft;
-use scion_records::paths::ScionWalk;
-use scion_records::paths::expiry_out;
-use scion_records::paths::interface_out;
-use scion_records::paths::path_answer_out;
+use scion_paths::ScionExpiry;
+use scion_paths::ScionHopField;
+use scion_paths::ScionInfoField;
+use scion_paths::ScionInterface;
+use scion_paths::ScionInterfaceCount;
+use scion_paths::ScionPathAnswer;
+use scion_paths::ScionPathRead;
+use scion_paths::ScionSegment;
+use scion_paths::ScionTimeLeft;
+use scion_paths::ScionWalk;
+use scion_paths::expiry_out;
+use scion_paths::hop_field_out;
+use scion_paths::info_field_out;
+use scion_paths::interface_count_out;
+use scion_paths::interface_out;
+use scion_paths::path_answer_out;
+use scion_paths::path_read_out;
+use scion_paths::segment_out;
+use scion_paths::time_left_out;
+use scion_paths::walk_out;
 ghost use mathlib.Core.Path.{_≡_};
-ghost use Prim.Native.Nat.{_+_, _≤_};
 ghost use lib.ListN.{length};
 ghost use Rattle.path.specs.Dataplane as dataplane;
 ghost use Rattle.path_copy.specs.Copy as copy;
@@ -33,31 +32,14 @@ ghost use Rattle.path_expiry.specs.Expiry as expiry;
 ghost use Rattle.path_interfaces.specs.Interfaces as interfaces;
 ghost use Rattle.reverse.specs.Reverse as reversal;
 ghost use Rattle.moves.specs.Moves as moves;
-ghost use Rattle.scion_records.specs.Paths as spec;
-
-// The bytes of a part, which lies among them.
-fn bytes_of(bytes: &[u8], part: Part) -> &[u8]
-    requires { ⌜ part .start + part .len ≤ length (now bytes) ⌝ }
-    ensures { λ r. ⌜ now r ≡ dataplane.partIn (now (bytes .entry)) part ⌝ }
-{
-    let start = part.start;
-    let end = start + part.len;
-    &bytes[start..end]
-}
+ghost use Rattle.scion_paths.specs.Paths as spec;
 
 // Reads a path by its type: its record, and how many of the bytes are the path's.
 #[no_mangle]
 pub extern "C" fn scion_read_path(path_type: u8, bytes: &[u8]) -> ScionPathRead
     ensures { λ r. ⌜ r ≡ spec.pathReadOut (dataplane.readDataplane «path_type» (now (bytes .entry))) ⌝ }
 {
-    let read = DataplanePath::new(path_type).decode(bytes);
-    let answer = read.answer;
-    let path = read.path;
-    ScionPathRead {
-        answer: decoded_out(answer),
-        path: path_out(path),
-        length: read.length,
-    }
+    path_read_out(DataplanePath::new(path_type).decode(bytes))
 }
 
 // Info field `index`.
@@ -65,20 +47,10 @@ pub extern "C" fn scion_read_path(path_type: u8, bytes: &[u8]) -> ScionPathRead
 pub extern "C" fn scion_info_field(path_type: u8, bytes: &[u8], index: usize) -> ScionInfoField
     ensures { λ r. ⌜ r ≡ spec.infoFieldOut (now (bytes .entry)) (dataplane.infoFieldIn «path_type» (now (bytes .entry)) index) ⌝ }
 {
-    let located = DataplanePath::new(path_type).locate_info_field(bytes, index);
-    let answer = located.answer;
-    let path = located.path;
-    let part = located.part;
-    let field = InfoField::new(bytes_of(bytes, part)).field;
-    ScionInfoField {
-        answer: answer_out(answer),
-        path: path_out(path),
-        start: part.start,
-        flags: field.flags,
-        reserved: field.reserved,
-        accumulator: field.accumulator,
-        timestamp: field.timestamp,
-    }
+    info_field_out(
+        bytes,
+        DataplanePath::new(path_type).locate_info_field(bytes, index),
+    )
 }
 
 // Hop field `index`.
@@ -86,22 +58,10 @@ pub extern "C" fn scion_info_field(path_type: u8, bytes: &[u8], index: usize) ->
 pub extern "C" fn scion_hop_field(path_type: u8, bytes: &[u8], index: usize) -> ScionHopField
     ensures { λ r. ⌜ r ≡ spec.hopFieldOut (now (bytes .entry)) (dataplane.hopFieldIn «path_type» (now (bytes .entry)) index) ⌝ }
 {
-    let located = DataplanePath::new(path_type).locate_hop_field(bytes, index);
-    let answer = located.answer;
-    let path = located.path;
-    let part = located.part;
-    let field = HopField::new(bytes_of(bytes, part)).field;
-    let mac = field.mac;
-    ScionHopField {
-        answer: answer_out(answer),
-        path: path_out(path),
-        start: part.start,
-        flags: field.flags,
-        exp_time: field.exp_time,
-        cons_ingress: field.cons_ingress,
-        cons_egress: field.cons_egress,
-        mac,
-    }
+    hop_field_out(
+        bytes,
+        DataplanePath::new(path_type).locate_hop_field(bytes, index),
+    )
 }
 
 // Segment `index`: where its info field and its hop fields lie.
@@ -109,17 +69,7 @@ pub extern "C" fn scion_hop_field(path_type: u8, bytes: &[u8], index: usize) -> 
 pub extern "C" fn scion_segment(path_type: u8, bytes: &[u8], index: usize) -> ScionSegment
     ensures { λ r. ⌜ r ≡ spec.segmentOut (dataplane.segmentIn «path_type» (now (bytes .entry)) index) ⌝ }
 {
-    let segment = DataplanePath::new(path_type).segment(bytes, index);
-    let answer = segment.answer;
-    let path = segment.path;
-    let info_field = segment.info_field;
-    let hop_fields = segment.hop_fields;
-    ScionSegment {
-        answer: answer_out(answer),
-        path: path_out(path),
-        info_field: part_out(info_field),
-        hop_fields: part_out(hop_fields),
-    }
+    segment_out(DataplanePath::new(path_type).segment(bytes, index))
 }
 
 // The expiry of segment `index`.
@@ -143,14 +93,7 @@ pub extern "C" fn scion_expiry(path_type: u8, bytes: &[u8]) -> ScionExpiry
 pub extern "C" fn scion_time_left(path_type: u8, bytes: &[u8], at: u64) -> ScionTimeLeft
     ensures { λ r. ⌜ r ≡ spec.timeLeftOut (expiry.timeLeftIn «path_type» (now (bytes .entry)) at) ⌝ }
 {
-    let left = path_expiry::time_left(DataplanePath::new(path_type), bytes, at);
-    let answer = left.answer;
-    let path = left.path;
-    ScionTimeLeft {
-        answer: answer_out(answer),
-        path: path_out(path),
-        ms: left.ms,
-    }
+    time_left_out(path_expiry::time_left(DataplanePath::new(path_type), bytes, at))
 }
 
 // The number of interfaces on the path.
@@ -158,14 +101,7 @@ pub extern "C" fn scion_time_left(path_type: u8, bytes: &[u8], at: u64) -> Scion
 pub extern "C" fn scion_interfaces_count(path_type: u8, bytes: &[u8]) -> ScionInterfaceCount
     ensures { λ r. ⌜ r ≡ spec.interfaceCountOut (interfaces.interfacesIn «path_type» (now (bytes .entry))) ⌝ }
 {
-    let interfaces = path_interfaces::interfaces_count(DataplanePath::new(path_type), bytes);
-    let answer = interfaces.answer;
-    let path = interfaces.path;
-    ScionInterfaceCount {
-        answer: answer_out(answer),
-        path: path_out(path),
-        count: interfaces.count,
-    }
+    interface_count_out(path_interfaces::interfaces_count(DataplanePath::new(path_type), bytes))
 }
 
 // Interface `index` in the order of travel, and its hop field.
@@ -173,16 +109,7 @@ pub extern "C" fn scion_interfaces_count(path_type: u8, bytes: &[u8]) -> ScionIn
 pub extern "C" fn scion_interface(path_type: u8, bytes: &[u8], index: usize) -> ScionInterface
     ensures { λ r. ⌜ r ≡ spec.interfaceOut (interfaces.interfaceIn «path_type» (now (bytes .entry)) index) ⌝ }
 {
-    let found = path_interfaces::interface(DataplanePath::new(path_type), bytes, index);
-    let answer = found.answer;
-    let path = found.path;
-    let interface = found.interface;
-    ScionInterface {
-        answer: answer_out(answer),
-        path: path_out(path),
-        hop_field: found.hop_field,
-        interface: interface_out(interface),
-    }
+    interface_out(path_interfaces::interface(DataplanePath::new(path_type), bytes, index))
 }
 
 // Sets or clears the ingress alert flag of hop field `index`.
@@ -238,15 +165,7 @@ pub extern "C" fn scion_walk(path_type: u8, bytes: &mut [u8], limit: usize) -> S
     ensures { λ r. ⌜ r ≡ spec.walkOut (moves.walkAnswer «path_type» (now (bytes .entry)) limit) ⌝ }
     ensures { λ _. ⌜ now (bytes .exit) ≡ moves.walked «path_type» (now (bytes .entry)) limit ⌝ }
 {
-    let walked = walk(path_type, bytes, limit);
-    let answer = walked.answer;
-    let path = walked.path;
-    ScionWalk {
-        answer: answer_out(answer),
-        path: path_out(path),
-        moves: walked.moves,
-        arrived: walked.arrived,
-    }
+    walk_out(walk(path_type, bytes, limit))
 }
 
 // Copies the path to a destination of exactly its length. An empty path disregards its destination.

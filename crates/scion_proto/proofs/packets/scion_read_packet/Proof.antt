@@ -1,5 +1,4 @@
 -- `scion_read_packet` meets its contract: the library's packet, handed over.
-use Rattle.scion_records.specs.Packets.{packetOut}
 use borrow.Author.Needs.{needs}
 use Rattle.scion_proto.proofs.packets.scion_read_packet.Statement.{statement}
 use Rattle.scion_proto.proofs.packets.scion_read_packet.Tie as tie
@@ -7,37 +6,12 @@ use Rattle.scion_proto.proofs.packets.scion_read_packet.Tie as tie
 decode-requires : tie.Need-decode-requires
 decode-requires c κs = search needs
 
-decoded-out-requires : tie.Need-decoded-out-requires
-decoded-out-requires c κs = search needs
-
-path-out-requires : tie.Need-path-out-requires
-path-out-requires c κs = search needs
-
-host-out-requires : tie.Need-host-out-requires
-host-out-requires c κs = search needs
-
-host-out-requires-2 : tie.Need-host-out-requires-2
-host-out-requires-2 c κs = search needs
-
-part-out-requires : tie.Need-part-out-requires
-part-out-requires c κs = search needs
-
-part-out-requires-2 : tie.Need-part-out-requires-2
-part-out-requires-2 c κs = search needs
+packet-out-requires : tie.Need-packet-out-requires
+packet-out-requires c κs = search needs
 
 returns : tie.Need-returns
-unfolding packetOut
-returns c = rw (← c .before .before .before .before .before .before .before .before .before .before .before .before .before .before .before .decode .ensures, c .before .before .before .before .before .decoded-out .ensures, c .before .before .before .before .path-out .ensures, c .before .before .before .host-out .ensures, c .before .before .host-out2 .ensures, c .before .part-out .ensures, c .part-out2 .ensures)
+returns c = rw (← c .before .decode .ensures) (c .packet-out .ensures)
 
 pub scion-read-packet-spec : {M : Type 1} → statement M
 scion-read-packet-spec =
-    tie.close
-    (tie.spec
-    decode-requires
-    decoded-out-requires
-    path-out-requires
-    host-out-requires
-    host-out-requires-2
-    part-out-requires
-    part-out-requires-2
-    returns)
+    tie.close (tie.spec decode-requires packet-out-requires returns)

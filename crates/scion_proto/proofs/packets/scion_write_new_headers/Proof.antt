@@ -1,6 +1,6 @@
 -- `scion_write_new_headers` meets its contract: the library's new headers, written; its answer handed over.
 use mathlib.Core.Path.{ap, _∙_}
-use Rattle.scion_records.specs.Packets.{encodedOut}
+use Rattle.scion_packets.specs.Packets.{encodedOut}
 use borrow.Author.Needs.{needs}
 use Rattle.scion_proto.proofs.packets.scion_write_new_headers.Statement.{statement}
 use Rattle.scion_proto.proofs.packets.scion_write_new_headers.Tie as tie

@@ -1,6 +1,4 @@
--- `scion_info_field` meets its contract: the field's part lies among the bytes, and its values are read from it.
-use Rattle.path.proofs.Reading.{info-inside}
-use Rattle.scion_records.specs.Paths.{infoFieldOut}
+-- `scion_info_field` meets its contract: the library's field, handed over.
 use borrow.Author.Needs.{needs}
 use Rattle.scion_proto.proofs.paths.scion_info_field.Statement.{statement}
 use Rattle.scion_proto.proofs.paths.scion_info_field.Tie as tie
@@ -11,30 +9,12 @@ new-requires c κs = search needs
 locate-info-field-requires : tie.Need-locate-info-field-requires
 locate-info-field-requires c κs = search needs
 
-bytes-of-requires : tie.Need-bytes-of-requires
-bytes-of-requires c κs = rw (← c .before .before .locate-info-field .ensures) at (info-inside (c .before .before .before .before .before .args .bytes .now) (c .before .before .before .new .result .«path_type») (c .before .before .before .before .before .args .index)) .inside
-
-new-requires-2 : tie.Need-new-requires-2
-new-requires-2 c κs = search needs
-
-answer-out-requires : tie.Need-answer-out-requires
-answer-out-requires c κs = search needs
-
-path-out-requires : tie.Need-path-out-requires
-path-out-requires c κs = search needs
+info-field-out-requires : tie.Need-info-field-out-requires
+info-field-out-requires c κs = search needs
 
 returns : tie.Need-returns
-unfolding infoFieldOut
-returns c = rw (← c .before .before .before .before .before .before .before .before .new .ensures, ← c .before .before .before .before .before .before .before .locate-info-field .ensures, c .before .answer-out .ensures, c .path-out .ensures, c .before .before .before .new2 .ensures, c .before .before .before .before .bytes-of .ensures)
+returns c = rw (← c .before .before .new .ensures, ← c .before .locate-info-field .ensures) (c .info-field-out .ensures)
 
 pub scion-info-field-spec : {M : Type 1} → statement M
 scion-info-field-spec =
-    tie.close
-    (tie.spec
-    new-requires
-    locate-info-field-requires
-    bytes-of-requires
-    new-requires-2
-    answer-out-requires
-    path-out-requires
-    returns)
+    tie.close (tie.spec new-requires locate-info-field-requires info-field-out-requires returns)

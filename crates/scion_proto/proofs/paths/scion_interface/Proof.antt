@@ -1,5 +1,4 @@
 -- `scion_interface` meets its contract: the library's interface, handed over.
-use Rattle.scion_records.specs.Paths.{interfaceOut}
 use borrow.Author.Needs.{needs}
 use Rattle.scion_proto.proofs.paths.scion_interface.Statement.{statement}
 use Rattle.scion_proto.proofs.paths.scion_interface.Tie as tie
@@ -10,26 +9,12 @@ new-requires c κs = search needs
 interface-requires : tie.Need-interface-requires
 interface-requires c κs = search needs
 
-answer-out-requires : tie.Need-answer-out-requires
-answer-out-requires c κs = search needs
-
-path-out-requires : tie.Need-path-out-requires
-path-out-requires c κs = search needs
-
 interface-out-requires : tie.Need-interface-out-requires
 interface-out-requires c κs = search needs
 
 returns : tie.Need-returns
-unfolding interfaceOut
-returns c = rw (← c .before .before .before .before .before .new .ensures, ← c .before .before .before .before .interface .ensures, c .before .before .answer-out .ensures, c .before .path-out .ensures, c .interface-out .ensures)
+returns c = rw (← c .before .before .new .ensures, ← c .before .interface .ensures) (c .interface-out .ensures)
 
 pub scion-interface-spec : {M : Type 1} → statement M
 scion-interface-spec =
-    tie.close
-    (tie.spec
-    new-requires
-    interface-requires
-    answer-out-requires
-    path-out-requires
-    interface-out-requires
-    returns)
+    tie.close (tie.spec new-requires interface-requires interface-out-requires returns)

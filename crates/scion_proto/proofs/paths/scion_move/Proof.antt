@@ -1,6 +1,6 @@
 -- `scion_move` meets its contract: the library's move, its answer handed over.
 use mathlib.Core.Path.{ap, _∙_}
-use Rattle.scion_records.specs.Paths.{pathAnswerOut}
+use Rattle.scion_paths.specs.Paths.{pathAnswerOut}
 use borrow.Author.Needs.{needs}
 use Rattle.scion_proto.proofs.paths.scion_move.Statement.{statement}
 use Rattle.scion_proto.proofs.paths.scion_move.Tie as tie

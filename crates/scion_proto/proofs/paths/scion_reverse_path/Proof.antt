@@ -1,6 +1,6 @@
 -- `scion_reverse_path` meets its contract: the library's reversal, its answer handed over.
 use mathlib.Core.Path.{ap, _∙_}
-use Rattle.scion_records.specs.Paths.{pathAnswerOut}
+use Rattle.scion_paths.specs.Paths.{pathAnswerOut}
 use borrow.Author.Needs.{needs}
 use Rattle.scion_proto.proofs.paths.scion_reverse_path.Statement.{statement}
 use Rattle.scion_proto.proofs.paths.scion_reverse_path.Tie as tie

@@ -1,0 +1,24 @@
+-- `hop_field_out` meets its contract: the field's values are read from its part of the bytes.
+use Rattle.scion_paths.specs.Paths.{hopFieldOut}
+use borrow.Author.Needs.{needs}
+use Rattle.scion_paths.proofs.hop_field_out.Statement.{statement}
+use Rattle.scion_paths.proofs.hop_field_out.Tie as tie
+
+bytes-of-requires : tie.Need-bytes-of-requires
+bytes-of-requires c κs = search needs
+
+new-requires : tie.Need-new-requires
+new-requires c κs = search needs
+
+answer-out-requires : tie.Need-answer-out-requires
+answer-out-requires c κs = search needs
+
+path-out-requires : tie.Need-path-out-requires
+path-out-requires c κs = search needs
+
+returns : tie.Need-returns
+unfolding hopFieldOut
+returns c = rw (c .before .answer-out .ensures, c .path-out .ensures, c .before .before .before .before .new .ensures, c .before .before .before .before .before .bytes-of .ensures)
+
+pub hop-field-out-spec : {M : Type 1} → statement M
+hop-field-out-spec = tie.close (tie.spec bytes-of-requires new-requires answer-out-requires path-out-requires returns)

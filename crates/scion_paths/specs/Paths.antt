@@ -1,0 +1,106 @@
+-- What the calls on paths hand to C: each answer of the library, field by field.
+use Prim.Native.Nat.{ℕ}
+use mathlib.Core.List.{List}
+use Rattle.path_fields.specs.Fields.{newInfoField, newHopField}
+use Rattle.path_fields.specs.declared.Interface.{Interface}
+use Rattle.path_fields.specs.declared.Interface.the-variants.{None, Id}
+use Rattle.path.specs.Dataplane.{partIn}
+use Rattle.path.specs.declared.standard.segment.Segment.{Segment}
+use Rattle.path.specs.declared.dataplane.DataplaneRead.{DataplaneRead}
+use Rattle.path.specs.declared.dataplane.PathAnswer.{PathAnswer}
+use Rattle.path.specs.declared.dataplane.Located.{Located}
+use Rattle.path_expiry.specs.declared.Expiry.{Expiry}
+use Rattle.path_expiry.specs.declared.TimeLeft.{TimeLeft}
+use Rattle.path_interfaces.specs.declared.InterfaceCount.{InterfaceCount}
+use Rattle.path_interfaces.specs.declared.InterfaceAt.{InterfaceAt}
+use Rattle.moves.specs.declared.WalkAnswer.{WalkAnswer}
+use Rattle.scion_answer.specs.Answer.{answerOut, decodedOut, pathOut, partOut}
+use Rattle.scion_paths.specs.declared.ScionPathAnswer.{ScionPathAnswer}
+use Rattle.scion_paths.specs.declared.ScionPathRead.{ScionPathRead}
+use Rattle.scion_paths.specs.declared.ScionInfoField.{ScionInfoField}
+use Rattle.scion_paths.specs.declared.ScionHopField.{ScionHopField}
+use Rattle.scion_paths.specs.declared.ScionSegment.{ScionSegment}
+use Rattle.scion_paths.specs.declared.ScionExpiry.{ScionExpiry}
+use Rattle.scion_paths.specs.declared.ScionTimeLeft.{ScionTimeLeft}
+use Rattle.scion_paths.specs.declared.ScionInterfaceCount.{ScionInterfaceCount}
+use Rattle.scion_paths.specs.declared.ScionInterface.{ScionInterface}
+use Rattle.scion_paths.specs.declared.ScionWalk.{ScionWalk}
+
+-- alert flags, moves, copies and reversals: the answer, and the record of the path
+unfoldable pub pathAnswerOut : PathAnswer → ScionPathAnswer
+pathAnswerOut a = record { answer = answerOut (a .answer); path = pathOut (a .path) }
+
+-- reading: also how many of the bytes are the path's
+unfoldable pub pathReadOut : DataplaneRead → ScionPathRead
+pathReadOut read = record { answer = decodedOut (read .answer); path = pathOut (read .path); length = read .length }
+
+-- an info field: where it starts, and the values of its part of 8 bytes; the part of a refusal is empty, and its values are zero
+unfoldable pub infoFieldOut : List ℕ → Located → ScionInfoField
+infoFieldOut bytes located =
+    let field = newInfoField (partIn bytes (located .part)) .field in
+    record {
+      answer = answerOut (located .answer);
+      path = pathOut (located .path);
+      start = located .part .start;
+      flags = field .flags;
+      reserved = field .reserved;
+      accumulator = field .accumulator;
+      timestamp = field .timestamp;
+    }
+
+-- a hop field, likewise, by its part of 12 bytes
+unfoldable pub hopFieldOut : List ℕ → Located → ScionHopField
+hopFieldOut bytes located =
+    let field = newHopField (partIn bytes (located .part)) .field in
+    record {
+      answer = answerOut (located .answer);
+      path = pathOut (located .path);
+      start = located .part .start;
+      flags = field .flags;
+      «exp_time» = field .«exp_time»;
+      «cons_ingress» = field .«cons_ingress»;
+      «cons_egress» = field .«cons_egress»;
+      mac = field .mac;
+    }
+
+-- a segment: where its info field and its hop fields lie
+unfoldable pub segmentOut : Segment → ScionSegment
+segmentOut segment =
+    record {
+      answer = answerOut (segment .answer);
+      path = pathOut (segment .path);
+      «info_field» = partOut (segment .«info_field»);
+      «hop_fields» = partOut (segment .«hop_fields»);
+    }
+
+-- an expiry, and the time left, in ms
+unfoldable pub expiryOut : Expiry → ScionExpiry
+expiryOut expiry = record { answer = answerOut (expiry .answer); path = pathOut (expiry .path); ms = expiry .ms }
+
+unfoldable pub timeLeftOut : TimeLeft → ScionTimeLeft
+timeLeftOut left = record { answer = answerOut (left .answer); path = pathOut (left .path); ms = left .ms }
+
+-- the number of interfaces
+unfoldable pub interfaceCountOut : InterfaceCount → ScionInterfaceCount
+interfaceCountOut interfaces =
+    record { answer = answerOut (interfaces .answer); path = pathOut (interfaces .path); count = interfaces .count }
+
+-- an interface's number on the wire: 0 means none
+abbrev pub interfaceNumber : Interface → ℕ
+interfaceNumber None = 0
+interfaceNumber (Id number) = number
+
+-- an interface, and the hop field that it belongs to
+unfoldable pub interfaceOut : InterfaceAt → ScionInterface
+interfaceOut found =
+    record {
+      answer = answerOut (found .answer);
+      path = pathOut (found .path);
+      «hop_field» = found .«hop_field»;
+      interface = interfaceNumber (found .interface);
+    }
+
+-- a walk: how many moves it made, and whether it stands at the last hop field
+unfoldable pub walkOut : WalkAnswer → ScionWalk
+walkOut walk =
+    record { answer = answerOut (walk .answer); path = pathOut (walk .path); moves = walk .moves; arrived = walk .arrived }
