@@ -13,7 +13,7 @@ use Rattle.wire_encoding.proofs.Numbers.{length-bytesOf}
 use Rattle.wire_encoding.proofs.Writes.{placed-whole}
 use Rattle.path_meta_header.specs.declared.PathMetaHeader.{PathMetaHeader}
 use Rattle.path_meta_header.specs.MetaHeader.{nthField, metaOf, segmentLength}
-use Rattle.meta_header_encoding.specs.Encoding.{fieldsFit, wordOf, asWord, encoding, encoded}
+use Rattle.meta_header_encoding.specs.Encoding.{metaFits, wordOf, asWord, metaEncoding, metaEncoded}
 
 -- a chain of tests that came out true: each did
 both : (b x : Bool) → pick b x false ≡ true → (b ≡ true) × (x ≡ true)
@@ -29,8 +29,8 @@ pub record Fitting (m : PathMetaHeader) : Type 0 where
   pub second : segmentLength m 1 < 64
   pub third : segmentLength m 2 < 64
 
-pub fitting : (m : PathMetaHeader) → fieldsFit m ≡ true → Fitting m
-unfolding fieldsFit
+pub fitting : (m : PathMetaHeader) → metaFits m ≡ true → Fitting m
+unfolding metaFits
 fitting m e =
     let a = both _ _ e in
     let b = both _ _ (a .1) in
@@ -88,33 +88,33 @@ unfolding metaOf nthField wordOf
 word-back w h = rw (next w h .0, next w h .1, middle w .0, middle w .1, last w .0, last w .1)
 
 -- what `as_u32`'s answer says of the header
-pub word-is : (m : PathMetaHeader) {n : ℕ} → value n ≡ asWord m → (fieldsFit m ≡ true) × (n ≡ wordOf m)
+pub word-is : (m : PathMetaHeader) {n : ℕ} → value n ≡ asWord m → (metaFits m ≡ true) × (n ≡ wordOf m)
 unfolding asWord
-word-is m {n} e = go (fieldsFit m) e
+word-is m {n} e = go (metaFits m) e
   where
     go : (t : Bool) → value n ≡ pick t (value (wordOf m)) (refused 10) → (t ≡ true) × (n ≡ wordOf m)
     go true e = (refl, cc)
     go false e = let z : _≡_ {A = ℕ} 0 1 = cc in absurd (omega arith)
 
-pub word-wide : (m : PathMetaHeader) → refused 10 ≡ asWord m → fieldsFit m ≡ false
+pub word-wide : (m : PathMetaHeader) → refused 10 ≡ asWord m → metaFits m ≡ false
 unfolding asWord
-word-wide m e = go (fieldsFit m) e
+word-wide m e = go (metaFits m) e
   where
     go : (t : Bool) → refused 10 ≡ pick t (value (wordOf m)) (refused 10) → t ≡ false
     go true e = let z : _≡_ {A = ℕ} 0 1 = cc in absurd (omega arith)
     go false e = refl
 
 -- the three answers of the encoder, each with what the destination then holds
-pub encoded-done : (m : PathMetaHeader) (dst : List ℕ) {now : List ℕ} → fieldsFit m ≡ true → length dst ≡ 4
-    → now ≡ placed dst 0 (bytesOf 4 (wordOf m)) → (0 ≡ encoding m dst) × (now ≡ encoded m dst)
-unfolding encoding encoded
+pub encoded-done : (m : PathMetaHeader) (dst : List ℕ) {now : List ℕ} → metaFits m ≡ true → length dst ≡ 4
+    → now ≡ placed dst 0 (bytesOf 4 (wordOf m)) → (0 ≡ metaEncoding m dst) × (now ≡ metaEncoded m dst)
+unfolding metaEncoding metaEncoded
 encoded-done m dst f l e =
     rw (f, eq-eqb (length dst) 4 l) (refl, e ∙ placed-whole (bytesOf 4 (wordOf m)) dst (length-bytesOf 4 (wordOf m) ∙ sym l))
 
-pub encoded-wide : (m : PathMetaHeader) (dst : List ℕ) → fieldsFit m ≡ false → (10 ≡ encoding m dst) × (dst ≡ encoded m dst)
-unfolding encoding encoded
+pub encoded-wide : (m : PathMetaHeader) (dst : List ℕ) → metaFits m ≡ false → (10 ≡ metaEncoding m dst) × (dst ≡ metaEncoded m dst)
+unfolding metaEncoding metaEncoded
 encoded-wide m dst f = rw f (refl, refl)
 
-pub encoded-size : (m : PathMetaHeader) (dst : List ℕ) → fieldsFit m ≡ true → (length dst ≡ 4 → ⊥) → (9 ≡ encoding m dst) × (dst ≡ encoded m dst)
-unfolding encoding encoded
+pub encoded-size : (m : PathMetaHeader) (dst : List ℕ) → metaFits m ≡ true → (length dst ≡ 4 → ⊥) → (9 ≡ metaEncoding m dst) × (dst ≡ metaEncoded m dst)
+unfolding metaEncoding metaEncoded
 encoded-size m dst f l = rw (f, ne-eqb (length dst) 4 l) (refl, refl)

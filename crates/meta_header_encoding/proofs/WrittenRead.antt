@@ -14,7 +14,7 @@ use Rattle.wire_encoding.proofs.Parts.{Bytes}
 use Rattle.wire_encoding.proofs.Numbers.{below, length-bytesOf, read-bytesOf, bytes-read, found}
 use Rattle.path_meta_header.specs.declared.PathMetaHeader.{PathMetaHeader}
 use Rattle.path_meta_header.specs.MetaHeader.{nthField, metaOf, checked, settled, metaRead, readMeta}
-use Rattle.meta_header_encoding.specs.Encoding.{fieldsFit, wordOf, encoded}
+use Rattle.meta_header_encoding.specs.Encoding.{metaFits, wordOf, metaEncoded}
 use Rattle.meta_header_encoding.proofs.EncodingLaws.{fitting, word-below, meta-back, word-back}
 
 -- the four bytes of a word spell it
@@ -25,9 +25,9 @@ spelt word h =
     ∙ mod-eq-of-lt h
 
 -- reading what was written: the header, as its rules settle it
-pub decode-encoded : (m : PathMetaHeader) (dst : List ℕ) → length (m .«segment_lengths») ≡ 3 → fieldsFit m ≡ true → length dst ≡ 4
-    → readMeta (encoded m dst) ≡ settled (checked m) m
-unfolding readMeta metaRead encoded
+pub decode-encoded : (m : PathMetaHeader) (dst : List ℕ) → length (m .«segment_lengths») ≡ 3 → metaFits m ≡ true → length dst ≡ 4
+    → readMeta (metaEncoded m dst) ≡ settled (checked m) m
+unfolding readMeta metaRead metaEncoded
 decode-encoded m dst lengths fits size =
     let word : ℕ = wordOf m in
     let small : word < 2 ^ 32 = word-below m (fitting m fits) in
@@ -40,8 +40,8 @@ decode-encoded m dst lengths fits size =
     read-word m e = ap (λ (h : PathMetaHeader). settled (checked h) h) e
 
 -- a word of 32 bits makes a header whose numbers fit their fields
-fits-word : (word : ℕ) → word < 2 ^ 32 → fieldsFit (metaOf word) ≡ true
-unfolding fieldsFit metaOf nthField
+fits-word : (word : ℕ) → word < 2 ^ 32 → metaFits (metaOf word) ≡ true
+unfolding metaFits metaOf nthField
 fits-word word h =
     rw (
       lt-ltb (word / 2 ^ 30 % 64) 4 (omega arith),
@@ -54,8 +54,8 @@ fits-word word h =
 
 -- writing what was read: the bytes that were read
 pub encode-decoded : (bytes dst : List ℕ) → Bytes bytes → 4 ≤ length bytes → length dst ≡ 4
-    → encoded (metaOf (bigEndian 4 bytes 0)) dst ≡ part 0 4 bytes
-unfolding encoded
+    → metaEncoded (metaOf (bigEndian 4 bytes 0)) dst ≡ part 0 4 bytes
+unfolding metaEncoded
 encode-decoded bytes dst b long size =
     let word : ℕ = bigEndian 4 bytes 0 in
     let small : word < 2 ^ 32 = omega (arith, below bytes b 0 4) in

@@ -18,8 +18,8 @@ abbrev pub fits : ℕ → ℕ → Bool
 fits bits n = ltb n (2 ^ bits)
 
 -- whether each number fits its field
-unfoldable pub fieldsFit : PathMetaHeader → Bool
-fieldsFit m =
+unfoldable pub metaFits : PathMetaHeader → Bool
+metaFits m =
     pick (fits 2 (m .«current_info_field»))
     (pick (fits 6 (m .«current_hop_field»))
     (pick (fits 6 (m .reserved))
@@ -36,20 +36,20 @@ wordOf m =
 
 -- the word, or 10 for a number wider than its field
 unfoldable pub asWord : PathMetaHeader → Answer
-asWord m = pick (fieldsFit m) (value (wordOf m)) (refused 10)
+asWord m = pick (metaFits m) (value (wordOf m)) (refused 10)
 
 abbrev pub answerWord : Word → Answer
 answerWord (word.Value n) = value n
 answerWord word.TooWide = refused 10
 
-abbrev pub encodedNumber : Encoded → ℕ
-encodedNumber written.Done = 0
-encodedNumber written.TooWide = 10
-encodedNumber written.InadequateBufferSize = 9
+abbrev pub metaEncodedNumber : Encoded → ℕ
+metaEncodedNumber written.Done = 0
+metaEncodedNumber written.TooWide = 10
+metaEncodedNumber written.InadequateBufferSize = 9
 
 -- writing a header: 10, then 9 for a destination that is not of 4 bytes; the destination is then the header's bytes, or what it was
-unfoldable pub encoding : PathMetaHeader → List ℕ → ℕ
-encoding m dst = pick (fieldsFit m) (pick (eqb (length dst) 4) 0 9) 10
+unfoldable pub metaEncoding : PathMetaHeader → List ℕ → ℕ
+metaEncoding m dst = pick (metaFits m) (pick (eqb (length dst) 4) 0 9) 10
 
-unfoldable pub encoded : PathMetaHeader → List ℕ → List ℕ
-encoded m dst = pick (fieldsFit m) (pick (eqb (length dst) 4) (bytesOf 4 (wordOf m)) dst) dst
+unfoldable pub metaEncoded : PathMetaHeader → List ℕ → List ℕ
+metaEncoded m dst = pick (metaFits m) (pick (eqb (length dst) 4) (bytesOf 4 (wordOf m)) dst) dst

@@ -53,7 +53,7 @@ fn fits_6(number: u8) -> bool
 
 // Whether each number fits its field.
 fn fields_fit(meta_header: PathMetaHeader) -> bool
-    ensures { λ r. ⌜ r ≡ spec.fieldsFit «meta_header» ⌝ }
+    ensures { λ r. ⌜ r ≡ spec.metaFits «meta_header» ⌝ }
 {
     let lengths = meta_header.segment_lengths;
     if !fits_2(meta_header.current_info_field) {
@@ -95,8 +95,8 @@ pub fn as_u32(meta_header: PathMetaHeader) -> Word
 
 // Writes the header to a destination of exactly 4 bytes.
 pub fn encode_to(meta_header: PathMetaHeader, dst: &mut [u8]) -> Encoded
-    ensures { λ r. ⌜ spec.encodedNumber r ≡ spec.encoding «meta_header» (now (dst .entry)) ⌝ }
-    ensures { λ _. ⌜ now (dst .exit) ≡ spec.encoded «meta_header» (now (dst .entry)) ⌝ }
+    ensures { λ r. ⌜ spec.metaEncodedNumber r ≡ spec.metaEncoding «meta_header» (now (dst .entry)) ⌝ }
+    ensures { λ _. ⌜ now (dst .exit) ≡ spec.metaEncoded «meta_header» (now (dst .entry)) ⌝ }
 {
     match as_u32(meta_header) {
         Word::Value(number) => {

@@ -21,7 +21,7 @@ use Rattle.wire_encoding.proofs.Numbers.{length-bytesOf, read-bytesOf}
 use Rattle.wire_encoding.proofs.Writes.{lent-run, placed-is}
 use Rattle.path_meta_header.specs.MetaHeader.{nthField, metaOf, infoFieldsCount, hopFieldsCount, pathLength}
 use Rattle.meta_header_reversal.specs.Reversal.{atStart, reversedLengths, reversedMeta}
-use Rattle.meta_header_encoding.specs.Encoding.{fieldsFit, wordOf}
+use Rattle.meta_header_encoding.specs.Encoding.{metaFits, wordOf}
 use Rattle.path_meta_header.specs.declared.PathMetaHeader.{PathMetaHeader}
 use Rattle.path_error.specs.declared.Decoded.the-variants as decoded
 use Rattle.path_error.specs.declared.DecodeError.{DecodeError}
@@ -198,30 +198,30 @@ by-row P a b c none one two three = go (eqb a 0) (eqb b 0) (eqb c 0)
     go false false false = three
 
 -- the numbers of a reversed header fit their fields where the lengths do
-fits-reversed : (a b c : ℕ) → a < 64 → b < 64 → c < 64 → fieldsFit (atStart (reversedLengths a b c)) ≡ true
-unfolding fieldsFit atStart
+fits-reversed : (a b c : ℕ) → a < 64 → b < 64 → c < 64 → metaFits (atStart (reversedLengths a b c)) ≡ true
+unfolding metaFits atStart
 fits-reversed a b c ha hb hc =
-    by-row (λ lengths. fieldsFit (atStart lengths) ≡ true) a b c
+    by-row (λ lengths. metaFits (atStart lengths) ≡ true) a b c
     refl
     (rw (lt-ltb a 64 ha))
     (rw (lt-ltb a 64 ha, lt-ltb b 64 hb))
     (rw (lt-ltb a 64 ha, lt-ltb b 64 hb, lt-ltb c 64 hc))
 
 -- those of a header that was read do, for each is six bits of a word
-fits-read : (word : ℕ) → fieldsFit (reversedMeta (metaOf word)) ≡ true
+fits-read : (word : ℕ) → metaFits (reversedMeta (metaOf word)) ≡ true
 unfolding reversedMeta metaOf nthField
 fits-read word = fits-reversed _ _ _ (omega arith) (omega arith) (omega arith)
 
 -- so a path that was read can be reversed into a destination of its length
 pub reversible : {bytes : List ℕ} {m : PathMetaHeader} {n : ℕ} → Readable bytes m → n ≡ pathLength m → Reversible m (length bytes) n
 reversible {bytes} r e = record {
-  fits = ap (λ (h : PathMetaHeader). fieldsFit (reversedMeta h)) (r .word) ∙ fits-read (bigEndian 4 bytes 0);
+  fits = ap (λ (h : PathMetaHeader). metaFits (reversedMeta h)) (r .word) ∙ fits-read (bigEndian 4 bytes 0);
   whole = r .whole;
   exact = e;
 }
 
 -- the first four bytes of what is written spell the reversed header
-module _ (m : PathMetaHeader) (bytes : List ℕ) (fits : fieldsFit (reversedMeta m) ≡ true) where
+module _ (m : PathMetaHeader) (bytes : List ℕ) (fits : metaFits (reversedMeta m) ≡ true) where
   pub word-reversedPath : bigEndian 4 (reversedPath m bytes) 0 ≡ wordOf (reversedMeta m)
   unfolding reversedPath
   word-reversedPath =

@@ -11,7 +11,7 @@ use Rattle.bits.specs.Bits.{bitOf, withBit}
 use Rattle.wire_encoding.specs.BigEndian.{bytesOf, part}
 use Rattle.path_meta_header.specs.MetaHeader.{infoFieldsCount, hopFieldsCount, pathLength}
 use Rattle.meta_header_reversal.specs.Reversal.{reversedMeta}
-use Rattle.meta_header_encoding.specs.Encoding.{fieldsFit, wordOf}
+use Rattle.meta_header_encoding.specs.Encoding.{metaFits, wordOf}
 use Rattle.path_meta_header.specs.declared.PathMetaHeader.{PathMetaHeader}
 use Rattle.path.specs.declared.standard.StandardPath.{StandardPath}
 use Rattle.path.specs.declared.dataplane.PathAnswer.{PathAnswer}
@@ -41,7 +41,7 @@ reversedPath m bytes =
 
 -- a path that can be reversed into a destination of its length
 pub record Reversible (m : PathMetaHeader) (source destination : ℕ) : Type 0 where
-  pub fits : fieldsFit (reversedMeta m) ≡ true
+  pub fits : metaFits (reversedMeta m) ≡ true
   pub whole : pathLength m ≤ source
   pub exact : destination ≡ pathLength m
 

@@ -18,7 +18,7 @@ ghost use mathlib.Core.Bool.{true};
 ghost use Prim.Native.Nat.{_+_, _*_, _≤_};
 ghost use lib.ListN.{length, drop};
 ghost use lib.Seq.{sets};
-ghost use Rattle.meta_header_encoding.specs.Encoding.{fieldsFit, wordOf};
+ghost use Rattle.meta_header_encoding.specs.Encoding.{metaFits, wordOf};
 ghost use Rattle.path_error.specs.declared.Decoded.the-variants as decoded;
 ghost use Rattle.path.specs.Standard.{readPath};
 ghost use Rattle.reverse.specs.Reverse as spec;
@@ -79,7 +79,7 @@ fn reverse_hop_fields(src: &[u8], from: usize, dst: &mut [u8], to: usize, count:
 
 // The word of a header whose numbers fit their fields.
 fn word_of(meta_header: PathMetaHeader) -> u32
-    requires { ⌜ fieldsFit «meta_header» ≡ true ⌝ }
+    requires { ⌜ metaFits «meta_header» ≡ true ⌝ }
     ensures { λ r. ⌜ r ≡ wordOf «meta_header» ⌝ }
 {
     match meta_header_encoding::as_u32(meta_header) {

@@ -1,7 +1,7 @@
 -- `as_u32` meets its contract: numbers that fit their fields make a word of 32 bits.
 use mathlib.Core.Path.{sym, _∙_}
 use native.Mathlib.Omega.{arith}
-use Rattle.meta_header_encoding.specs.Encoding as encoding
+use Rattle.meta_header_encoding.specs.Encoding as metaEncoding
 use Rattle.meta_header_encoding.proofs.EncodingLaws.{Fitting, fitting}
 use borrow.Author.Needs.{needs}
 use Rattle.meta_header_encoding.proofs.as_u32.Statement.{statement}
@@ -71,7 +71,7 @@ cast-t27 : tie.Need-cast-t27
 cast-t27 c = let f : Fitting (c .before .before .before .before .before .before .before .before .before .args .meta-header) = fitting (c .before .before .before .before .before .before .before .before .before .args .meta-header) (sym (c .before .before .before .before .before .before .before .fields-fit .ensures) ∙ c .before .before .before .before .before .before .if1 .taken) in omega arith
 
 returns : tie.Need-returns
-unfolding encoding.asWord encoding.wordOf
+unfolding metaEncoding.asWord metaEncoding.wordOf
 returns c =
     rw (
       c .before .before .before .before .before .wide .ensures .0,
@@ -84,7 +84,7 @@ returns c =
     )
 
 returns-2 : tie.Need-returns-2
-unfolding encoding.asWord
+unfolding metaEncoding.asWord
 returns-2 c = rw (sym (c .before .fields-fit .ensures) ∙ c .if1 .left)
 
 pub as-u32-spec : {M : Type 1} → statement M

@@ -1,7 +1,7 @@
 -- `reverse_fields` meets its contract: the header, the info fields and the hop fields, each written where the one before it ends.
 use mathlib.Core.Path.{ap, _∙_}
 use Rattle.path_meta_header.specs.MetaHeader.{pathLength}
-use Rattle.meta_header_encoding.specs.Encoding.{fieldsFit, wordOf}
+use Rattle.meta_header_encoding.specs.Encoding.{metaFits, wordOf}
 use Rattle.reverse.proofs.Laws.{all-written}
 use borrow.Author.Needs.{needs}
 use Rattle.reverse.proofs.reverse_fields.Statement.{statement}
@@ -17,7 +17,7 @@ to-reversed-requires : tie.Need-to-reversed-requires
 to-reversed-requires c κs = search needs
 
 word-of-requires : tie.Need-word-of-requires
-word-of-requires c κs = ap fieldsFit (c .before .to-reversed .ensures) ∙ c .before .before .before .before .before .before .pre .fits
+word-of-requires c κs = ap metaFits (c .before .to-reversed .ensures) ∙ c .before .before .before .before .before .before .pre .fits
 
 put-u32-requires : tie.Need-put-u32-requires
 put-u32-requires c κs = search needs

@@ -1,7 +1,7 @@
 -- `word_of` meets its contract: `as_u32` answers with the word where every number fits, and refuses only where one does not.
 use mathlib.Core.Path.{_≡_}
 use mathlib.Core.Bool.{false}
-use Rattle.meta_header_encoding.specs.Encoding.{fieldsFit}
+use Rattle.meta_header_encoding.specs.Encoding.{metaFits}
 use Rattle.meta_header_encoding.proofs.EncodingLaws.{word-is, word-wide}
 use borrow.Author.Needs.{needs}
 use Rattle.reverse.proofs.word_of.Statement.{statement}
@@ -22,7 +22,7 @@ returns c = word-is _ (rw (c .before .word .given .1) at (c .before .before .bef
 returns-2 : tie.Need-returns-2
 returns-2 c =
     let m = c .before .before .before .args .meta-header in
-    let wide : fieldsFit m ≡ false = word-wide m (rw (c .enum-told .given .1) at (c .before .before .as-u32 .ensures)) in
+    let wide : metaFits m ≡ false = word-wide m (rw (c .enum-told .given .1) at (c .before .before .as-u32 .ensures)) in
     cc (c .before .before .before .pre)
 
 pub word-of-spec : {M : Type 1} → statement M
