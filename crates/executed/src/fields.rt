@@ -175,45 +175,50 @@ fn expires(line: &[u8]) {
 
 // Answers a call of this file; whether the line is one.
 pub fn answer(line: &[u8]) -> bool {
-    if words::is_call(line, b"info ", b"s") {
-        info(line);
-        return true;
+    match words::call_of(
+        line,
+        b"info s infodir sf hop s hopflags sff infobits f infodirs f hopbits f hopalerts ff sides ss expiry wb",
+    ) {
+        1 => {
+            info(line);
+            true
+        }
+        2 => {
+            infodir(line);
+            true
+        }
+        3 => {
+            hop(line);
+            true
+        }
+        4 => {
+            hopflags(line);
+            true
+        }
+        5 => {
+            infobits(line);
+            true
+        }
+        6 => {
+            infodirs(line);
+            true
+        }
+        7 => {
+            hopbits(line);
+            true
+        }
+        8 => {
+            hopalerts(line);
+            true
+        }
+        9 => {
+            sides(line);
+            true
+        }
+        10 => {
+            expires(line);
+            true
+        }
+        _ => false,
     }
-    if words::is_call(line, b"infodir ", b"sf") {
-        infodir(line);
-        return true;
-    }
-    if words::is_call(line, b"hop ", b"s") {
-        hop(line);
-        return true;
-    }
-    if words::is_call(line, b"hopflags ", b"sff") {
-        hopflags(line);
-        return true;
-    }
-    if words::is_call(line, b"infobits ", b"f") {
-        infobits(line);
-        return true;
-    }
-    if words::is_call(line, b"infodirs ", b"f") {
-        infodirs(line);
-        return true;
-    }
-    if words::is_call(line, b"hopbits ", b"f") {
-        hopbits(line);
-        return true;
-    }
-    if words::is_call(line, b"hopalerts ", b"ff") {
-        hopalerts(line);
-        return true;
-    }
-    if words::is_call(line, b"sides ", b"ss") {
-        sides(line);
-        return true;
-    }
-    if words::is_call(line, b"expiry ", b"wb") {
-        expires(line);
-        return true;
-    }
-    false
 }

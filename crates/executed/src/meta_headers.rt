@@ -172,29 +172,34 @@ fn offset(line: &[u8]) {
 
 // Answers a call of this file; whether the line is one.
 pub fn answer(line: &[u8]) -> bool {
-    if words::is_call(line, b"meta ", b"s") {
-        meta(line);
-        return true;
+    match words::call_of(
+        line,
+        b"meta s firsts s counts bbbbbb encode bbbbbbs ifhop bbbn offset bbbn",
+    ) {
+        1 => {
+            meta(line);
+            true
+        }
+        2 => {
+            firsts(line);
+            true
+        }
+        3 => {
+            counts(line);
+            true
+        }
+        4 => {
+            encode(line);
+            true
+        }
+        5 => {
+            ifhop(line);
+            true
+        }
+        6 => {
+            offset(line);
+            true
+        }
+        _ => false,
     }
-    if words::is_call(line, b"firsts ", b"s") {
-        firsts(line);
-        return true;
-    }
-    if words::is_call(line, b"counts ", b"bbbbbb") {
-        counts(line);
-        return true;
-    }
-    if words::is_call(line, b"encode ", b"bbbbbbs") {
-        encode(line);
-        return true;
-    }
-    if words::is_call(line, b"ifhop ", b"bbbn") {
-        ifhop(line);
-        return true;
-    }
-    if words::is_call(line, b"offset ", b"bbbn") {
-        offset(line);
-        return true;
-    }
-    false
 }

@@ -264,33 +264,38 @@ fn put_address(line: &[u8]) {
 
 // Answers a call of this file; whether the line is one.
 pub fn answer(line: &[u8]) -> bool {
-    if words::is_call(line, b"packet ", b"s") {
-        packet(line);
-        return true;
+    match words::call_of(
+        line,
+        b"packet s common s address bbs write bbwbnnbhnnbhsbhsss new bnwbnnbhsbhsss putcommon bbwbbhbbbhs putaddress nnbhsbhss",
+    ) {
+        1 => {
+            packet(line);
+            true
+        }
+        2 => {
+            common(line);
+            true
+        }
+        3 => {
+            address(line);
+            true
+        }
+        4 => {
+            write(line);
+            true
+        }
+        5 => {
+            new(line);
+            true
+        }
+        6 => {
+            put_common(line);
+            true
+        }
+        7 => {
+            put_address(line);
+            true
+        }
+        _ => false,
     }
-    if words::is_call(line, b"common ", b"s") {
-        common(line);
-        return true;
-    }
-    if words::is_call(line, b"address ", b"bbs") {
-        address(line);
-        return true;
-    }
-    if words::is_call(line, b"write ", b"bbwbnnbhnnbhsbhsss") {
-        write(line);
-        return true;
-    }
-    if words::is_call(line, b"new ", b"bnwbnnbhsbhsss") {
-        new(line);
-        return true;
-    }
-    if words::is_call(line, b"putcommon ", b"bbwbbhbbbhs") {
-        put_common(line);
-        return true;
-    }
-    if words::is_call(line, b"putaddress ", b"nnbhsbhss") {
-        put_address(line);
-        return true;
-    }
-    false
 }

@@ -171,61 +171,67 @@ fn copy(line: &[u8]) {
 
 // Answers a call that reads a path or shows a part of it; whether the line is one.
 fn view(line: &[u8]) -> bool {
-    if words::is_call(line, b"path ", b"bs") {
-        read(line);
-        return true;
+    match words::call_of(line, b"path bs locinfo bsn lochop bsn segment bsn") {
+        1 => {
+            read(line);
+            true
+        }
+        2 => {
+            locinfo(line);
+            true
+        }
+        3 => {
+            lochop(line);
+            true
+        }
+        4 => {
+            segment(line);
+            true
+        }
+        _ => false,
     }
-    if words::is_call(line, b"locinfo ", b"bsn") {
-        locinfo(line);
-        return true;
-    }
-    if words::is_call(line, b"lochop ", b"bsn") {
-        lochop(line);
-        return true;
-    }
-    if words::is_call(line, b"segment ", b"bsn") {
-        segment(line);
-        return true;
-    }
-    false
 }
 
 // Answers a call on a path's times; whether the line is one.
 fn times(line: &[u8]) -> bool {
-    if words::is_call(line, b"segexp ", b"bsn") {
-        segexp(line);
-        return true;
+    match words::call_of(line, b"segexp bsn pathexp bs left bsn") {
+        1 => {
+            segexp(line);
+            true
+        }
+        2 => {
+            pathexp(line);
+            true
+        }
+        3 => {
+            left(line);
+            true
+        }
+        _ => false,
     }
-    if words::is_call(line, b"pathexp ", b"bs") {
-        pathexp(line);
-        return true;
-    }
-    if words::is_call(line, b"left ", b"bsn") {
-        left(line);
-        return true;
-    }
-    false
 }
 
 // Answers a call on a path's interfaces, its alert flags or a copy; whether the line is one.
 fn other(line: &[u8]) -> bool {
-    if words::is_call(line, b"ifcount ", b"bs") {
-        ifcount(line);
-        return true;
+    match words::call_of(line, b"ifcount bs iface bsn alert bsnff copy bss") {
+        1 => {
+            ifcount(line);
+            true
+        }
+        2 => {
+            iface(line);
+            true
+        }
+        3 => {
+            alert(line);
+            true
+        }
+        4 => {
+            copy(line);
+            true
+        }
+        _ => false,
     }
-    if words::is_call(line, b"iface ", b"bsn") {
-        iface(line);
-        return true;
-    }
-    if words::is_call(line, b"alert ", b"bsnff") {
-        alert(line);
-        return true;
-    }
-    if words::is_call(line, b"copy ", b"bss") {
-        copy(line);
-        return true;
-    }
-    false
 }
 
 // Answers a call of this file; whether the line is one.

@@ -65,21 +65,23 @@ fn seghops(line: &[u8]) {
 
 // Answers a call of this file; whether the line is one.
 pub fn answer(line: &[u8]) -> bool {
-    if words::is_call(line, b"ends ", b"s") {
-        ends(line);
-        return true;
+    match words::call_of(line, b"ends s parts s hops bs seghops bsn") {
+        1 => {
+            ends(line);
+            true
+        }
+        2 => {
+            parts(line);
+            true
+        }
+        3 => {
+            hops(line);
+            true
+        }
+        4 => {
+            seghops(line);
+            true
+        }
+        _ => false,
     }
-    if words::is_call(line, b"parts ", b"s") {
-        parts(line);
-        return true;
-    }
-    if words::is_call(line, b"hops ", b"bs") {
-        hops(line);
-        return true;
-    }
-    if words::is_call(line, b"seghops ", b"bsn") {
-        seghops(line);
-        return true;
-    }
-    false
 }

@@ -39,17 +39,19 @@ fn walk(line: &[u8]) {
 
 // Answers a call of this file; whether the line is one.
 pub fn answer(line: &[u8]) -> bool {
-    if words::is_call(line, b"turn ", b"bss") {
-        turn(line);
-        return true;
+    match words::call_of(line, b"turn bss move bs walk bsn") {
+        1 => {
+            turn(line);
+            true
+        }
+        2 => {
+            single_move(line);
+            true
+        }
+        3 => {
+            walk(line);
+            true
+        }
+        _ => false,
     }
-    if words::is_call(line, b"move ", b"bs") {
-        single_move(line);
-        return true;
-    }
-    if words::is_call(line, b"walk ", b"bsn") {
-        walk(line);
-        return true;
-    }
-    false
 }

@@ -237,23 +237,25 @@ fn bounded(line: &[u8]) -> bool {
 
 // Answers a call on an address; whether the line is one.
 fn address(line: &[u8]) -> bool {
-    if words::is_call(line, b"isdasn ", b"n") {
-        isdasn(line);
-        return true;
+    match words::call_of(line, b"isdasn n service h hosttype b hostkind b") {
+        1 => {
+            isdasn(line);
+            true
+        }
+        2 => {
+            service(line);
+            true
+        }
+        3 => {
+            hosttype(line);
+            true
+        }
+        4 => {
+            hostkind(line);
+            true
+        }
+        _ => false,
     }
-    if words::is_call(line, b"service ", b"h") {
-        service(line);
-        return true;
-    }
-    if words::is_call(line, b"hosttype ", b"b") {
-        hosttype(line);
-        return true;
-    }
-    if words::is_call(line, b"hostkind ", b"b") {
-        hostkind(line);
-        return true;
-    }
-    false
 }
 
 // Answers a call of this file; whether the line is one.

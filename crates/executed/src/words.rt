@@ -241,6 +241,23 @@ pub fn is_call(line: &[u8], name: &[u8], kinds: &[u8]) -> bool {
     false
 }
 
+// Which call of a table a line is, counted from 1; 0 where it is none. The table has each call's name and the kinds of its words.
+pub fn call_of(line: &[u8], table: &[u8]) -> usize {
+    let name = word(line, 0);
+    let mut number: usize = 1;
+    let mut k: usize = 0;
+    while 1 < table.len() - k {
+        if same(name, word(table, k)) {
+            if are_of_kinds(line, word(table, k + 1)) {
+                return number;
+            }
+        }
+        k += 2;
+        number += 1;
+    }
+    0
+}
+
 // Word `k` as a 64-bit number.
 pub fn u64_at(line: &[u8], k: usize) -> u64 {
     number(word(line, k))
