@@ -54,8 +54,8 @@ endhostOf a ia = endhostIn (a .host) (a .bytes) ia
 
 -- THE HEADER
 
-unfoldable pub headerOf : ScionAddr → ScionAddr → AddressHeader
-headerOf destination source =
+unfoldable pub addressHeaderOf : ScionAddr → ScionAddr → AddressHeader
+addressHeaderOf destination source =
     record {
       «destination_ia» = destination .«isd_asn»;
       «source_ia» = source .«isd_asn»;

@@ -141,7 +141,7 @@ impl AddressHeader {
 
     // The header of two ends.
     pub fn new(destination: ScionAddr, source: ScionAddr) -> AddressHeader
-        ensures { λ r. ⌜ r ≡ spec.headerOf destination source ⌝ }
+        ensures { λ r. ⌜ r ≡ spec.addressHeaderOf destination source ⌝ }
     {
         let to = destination.host;
         let from = source.host;

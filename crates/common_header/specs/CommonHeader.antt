@@ -17,8 +17,8 @@ use Rattle.common_header.specs.declared.CommonHeader.{CommonHeader}
 use Rattle.common_header.specs.declared.CommonHeaderRead.{CommonHeaderRead}
 
 -- the fields of the twelve bytes; a host kind is DT and DL, or ST and SL, as one number of 4 bits
-unfoldable pub commonOf : List ℕ → CommonHeader
-commonOf bytes =
+unfoldable pub commonAt : List ℕ → CommonHeader
+commonAt bytes =
     record {
       version = bigEndian 4 bytes 0 / 2 ^ 28 % 16;
       «traffic_class» = bigEndian 4 bytes 0 / 2 ^ 20 % 256;
@@ -64,7 +64,7 @@ readCommon bytes =
     (pick (eqb (versionOf bytes) 0)
     (pick (ltb (length bytes) 12) (commonRefused PacketEmptyOrTruncated)
     (pick (ltb (factorOf bytes) 9) (commonRefused (InvalidHeaderLength (factorOf bytes)))
-    (record { answer = Accepted; header = commonOf bytes })))
+    (record { answer = Accepted; header = commonAt bytes })))
     (commonRefused (UnsupportedVersion (versionOf bytes))))
 
 -- the length of all headers: 4 × factor; of those after this one; of a host of a kind: 4 × ((kind mod 4) + 1)

@@ -53,7 +53,7 @@ impl AddressInfo {
 // The fields of a common header, which is there.
 fn fields(bytes: &[u8]) -> CommonHeader
     requires { ⌜ 12 ≤ length (now bytes) ⌝ }
-    ensures { λ r. ⌜ r ≡ spec.commonOf (now (bytes .entry)) ⌝ }
+    ensures { λ r. ⌜ r ≡ spec.commonAt (now (bytes .entry)) ⌝ }
 {
     let first = u32_or_zero(bytes, 0);
     let payload_length = u16_or_zero(bytes, 6);

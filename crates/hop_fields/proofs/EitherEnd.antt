@@ -11,7 +11,7 @@ use borrow.Author.Tests.{le-ltb}
 use Rattle.wire_encoding.specs.BigEndian.{part}
 use Rattle.wire_encoding.proofs.Parts.{length-part, part-part}
 use Rattle.hop_fields.specs.Run.{count, first, afterFirst, last, beforeLast, hopField, firstHopFields, hopFields}
-use Rattle.hop_fields.specs.Reads.{End, front, back, given, left, leftBy, isAt, madeAt, fromFront, fromBack, FromEitherEnd}
+use Rattle.hop_fields.specs.Reads.{ReadEnd, front, back, given, left, leftBy, isAt, madeAt, fromFront, fromBack, FromEitherEnd}
 use Rattle.hop_fields.proofs.Parts.{to-the-end}
 
 -- ONE READ of a run of n + 1 hop fields
@@ -58,14 +58,14 @@ at-back n run e =
 -- ANY READS, after which n hop fields are left
 
 -- each read is made at one of the ends
-made : (reads : List End) → madeAt front reads + madeAt back reads ≡ length reads
+made : (reads : List ReadEnd) → madeAt front reads + madeAt back reads ≡ length reads
 unfolding madeAt isAt
 made [] = refl
 made (front ∷ reads) = let rest = made reads in omega arith
 made (back ∷ reads) = let rest = made reads in omega arith
 
 -- what is left is the part between
-left-between : (reads : List End) (n : ℕ) (run : List ℕ) → length run ≡ (length reads + n) * 12
+left-between : (reads : List ReadEnd) (n : ℕ) (run : List ℕ) → length run ≡ (length reads + n) * 12
     → leftBy reads run ≡ part (madeAt front reads * 12) (n * 12) run
 unfolding left leftBy madeAt isAt
 left-between [] n run e = sym (take-all (n * 12) run (omega arith))
@@ -82,7 +82,7 @@ left-between (back ∷ reads) n run e =
     ∙ ap (λ (k : ℕ). part k (n * 12) run) before
 
 -- each hop field is given once or left
-once : (reads : List End) (n : ℕ) (run : List ℕ) → length run ≡ (length reads + n) * 12
+once : (reads : List ReadEnd) (n : ℕ) (run : List ℕ) → length run ≡ (length reads + n) * 12
     → fromFront reads run ++ (hopFields (leftBy reads run) ++ fromBack reads run) ≡ hopFields run
 unfolding left leftBy fromFront fromBack
 once [] n run e = append-nil (hopFields run)
@@ -101,13 +101,13 @@ once (back ∷ reads) n run e =
     ∙ at-back (length reads + n) run size
 
 -- nothing is left of nothing, and nothing is given
-nothing-left : (more : List End) → leftBy more [] ≡ []
+nothing-left : (more : List ReadEnd) → leftBy more [] ≡ []
 unfolding left leftBy
 nothing-left [] = refl
 nothing-left (front ∷ more) = nothing-left more
 nothing-left (back ∷ more) = nothing-left more
 
-nothing-given : (end : End) → given end [] ≡ []
+nothing-given : (end : ReadEnd) → given end [] ≡ []
 unfolding given first last
 nothing-given front = refl
 nothing-given back = refl

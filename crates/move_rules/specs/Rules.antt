@@ -8,13 +8,12 @@ use lib.ListN.{getD}
 use lib.Dec.{ltb, eqb}
 use Rattle.wire_encoding.specs.Choice.{pick}
 use Rattle.bits.specs.Bits.{bitOf}
-use Rattle.path_meta_header.specs.MetaHeader.{infoFieldsCount, hopFieldsCount}
+use Rattle.path_meta_header.specs.MetaHeader.{infoFieldsCount, hopFieldsCount, infoStart}
 use Rattle.path_meta_header.specs.declared.PathMetaHeader.{PathMetaHeader}
 use Rattle.path_error.specs.declared.Answer.{Answer}
 use Rattle.path_error.specs.declared.Answer.the-variants.{Accepted, Refused}
 use Rattle.path_error.specs.declared.PathError.{PathError}
 use Rattle.path_error.specs.declared.PathError.the-variants.{TooManyHopFields, PeeringNotOnBoth}
-use Rattle.path.specs.Segment.{infoStart}
 use Rattle.path.specs.Dataplane.{answerRefused, answered, carriedOut, onStandard}
 use Rattle.path.specs.declared.standard.StandardPath.{StandardPath}
 use Rattle.path.specs.declared.dataplane.PathAnswer.{PathAnswer}

@@ -9,8 +9,7 @@ use wire_encoding::read::wide;
 ghost use mathlib.Core.Path.{_≡_};
 ghost use Prim.Native.Nat.{_+_, _≤_};
 ghost use lib.ListN.{length};
-ghost use Rattle.path_meta_header.specs.MetaHeader.{pathLength};
-ghost use Rattle.path.specs.Segment.{infoStart};
+ghost use Rattle.path_meta_header.specs.MetaHeader.{pathLength, infoStart};
 ghost use Rattle.move_rules.specs.Rules as spec;
 
 // The number of the first `count` info fields that have peering set.

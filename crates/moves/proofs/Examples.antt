@@ -8,7 +8,7 @@ use Rattle.wire_encoding.specs.BigEndian.{bigEndian, bytesOf, numberAt, room}
 use Rattle.path_error.specs.Errors.{answerNumber}
 use Rattle.path_meta_header.specs.MetaHeader as meta
 use Rattle.path.specs.Standard as standard
-use Rattle.path.specs.Segment.{infoStart}
+use Rattle.path_meta_header.specs.MetaHeader.{infoStart}
 use Rattle.path.specs.Dataplane as dataplane
 use Rattle.moves.specs.Moves as moves
 use Rattle.move_rules.specs.Rules as rules

@@ -20,7 +20,7 @@ use Rattle.path_meta_header.specs.MetaHeader as meta
 use Rattle.path_meta_header.specs.declared.PathMetaHeader.{PathMetaHeader}
 use Rattle.path_error.specs.declared.Answer.{Answer}
 use Rattle.path_error.specs.declared.Answer.the-variants.{Accepted, Refused}
-use Rattle.path.specs.Segment.{infoStart}
+use Rattle.path_meta_header.specs.MetaHeader.{infoStart}
 use Rattle.path.specs.Dataplane.{carriedOut}
 use Rattle.path.proofs.Reading.{Sound}
 use Rattle.path.proofs.Links.{segment-below}

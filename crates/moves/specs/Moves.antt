@@ -8,13 +8,12 @@ use lib.Dec.{ltb, eqb}
 use lib.Bits.{bitXor}
 use Rattle.wire_encoding.specs.Choice.{pick}
 use Rattle.wire_encoding.specs.BigEndian.{bigEndian, bytesOf}
-use Rattle.path_meta_header.specs.MetaHeader.{segmentLength, hopFieldsCount, segmentOf}
+use Rattle.path_meta_header.specs.MetaHeader.{segmentLength, hopFieldsCount, segmentOf, infoStart, hopStart}
 use Rattle.path_meta_header.specs.declared.PathMetaHeader.{PathMetaHeader}
 use Rattle.path_error.specs.declared.Answer.the-variants.{Accepted, Refused}
 use Rattle.path_error.specs.declared.PathError.{PathError}
 use Rattle.path_error.specs.declared.PathError.the-variants.{AtLastHopField}
 use Rattle.path.specs.Standard.{zeroPath}
-use Rattle.path.specs.Segment.{infoStart, hopStart}
 use Rattle.path.specs.Dataplane.{answerRefused, standardOf}
 use Rattle.path.specs.declared.dataplane.PathAnswer.{PathAnswer}
 use Rattle.move_rules.specs.Rules.{ownerOf, spared, flagsAt, onMovable, Movable}

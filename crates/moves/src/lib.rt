@@ -15,7 +15,7 @@ use wire_encoding::write::put_u16;
 ghost use mathlib.Core.Path.{_≡_};
 ghost use Prim.Native.Nat.{_+_, _≤_, _<_};
 ghost use lib.ListN.{length};
-ghost use Rattle.path.specs.Segment.{infoStart};
+ghost use Rattle.path_meta_header.specs.MetaHeader.{infoStart};
 ghost use Rattle.moves.specs.Moves as spec;
 ghost use Rattle.move_rules.specs.Rules as rules;
 

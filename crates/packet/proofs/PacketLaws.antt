@@ -22,7 +22,7 @@ use Rattle.path_error.specs.declared.DecodeError.the-variants.{
   InconsistentPathLength,
 }
 use Rattle.path.specs.declared.dataplane.DataplaneRead.{DataplaneRead}
-use Rattle.common_header.specs.CommonHeader.{commonOf, commonRefused, versionOf, factorOf, readCommon, headerLength, hostLength}
+use Rattle.common_header.specs.CommonHeader.{commonAt, commonRefused, versionOf, factorOf, readCommon, headerLength, hostLength}
 use Rattle.address_header.specs.AddressHeader.{readAddress, addressTruncated, addressAt, lengthOfKinds}
 use Rattle.common_header.specs.declared.CommonHeader.{CommonHeader}
 use Rattle.common_header.specs.declared.CommonHeaderRead.{CommonHeaderRead}
@@ -51,7 +51,7 @@ never h = let z : _≡_ {A = ℕ} 0 1 = cc in omega arith
 module _ (bytes : List ℕ) where
   -- what a common header that was read says of the bytes
   pub record CommonKnown (c : CommonHeader) : Type 0 where
-    pub fields : c ≡ commonOf bytes
+    pub fields : c ≡ commonAt bytes
     pub version : versionOf bytes ≡ 0
     pub long : 12 ≤ length bytes
     pub factor : 9 ≤ factorOf bytes
@@ -65,14 +65,14 @@ module _ (bytes : List ℕ) where
           → pick e (commonRefused PacketEmptyOrTruncated)
           (pick v
           (pick s (commonRefused PacketEmptyOrTruncated)
-          (pick f (commonRefused (InvalidHeaderLength (factorOf bytes))) (record { answer = Accepted; header = commonOf bytes })))
+          (pick f (commonRefused (InvalidHeaderLength (factorOf bytes))) (record { answer = Accepted; header = commonAt bytes })))
           (commonRefused (UnsupportedVersion (versionOf bytes))))
           .answer ≡ Accepted
           → CommonKnown
           (pick e (commonRefused PacketEmptyOrTruncated)
           (pick v
           (pick s (commonRefused PacketEmptyOrTruncated)
-          (pick f (commonRefused (InvalidHeaderLength (factorOf bytes))) (record { answer = Accepted; header = commonOf bytes })))
+          (pick f (commonRefused (InvalidHeaderLength (factorOf bytes))) (record { answer = Accepted; header = commonAt bytes })))
           (commonRefused (UnsupportedVersion (versionOf bytes))))
           .header)
       go true v s f ee ev es ef h = absurd (never h)
@@ -87,10 +87,10 @@ module _ (bytes : List ℕ) where
       }
 
   pub common-was-read : {r : CommonHeaderRead} → r ≡ readCommon bytes → r .answer ≡ Accepted → CommonWasRead bytes (r .header)
-  unfolding commonOf
+  unfolding commonAt
   common-was-read {r} e h =
       let k = common-known (ap (λ (x : CommonHeaderRead). x .answer) (sym e) ∙ h) in
-      let header : r .header ≡ commonOf bytes = ap (λ (x : CommonHeaderRead). x .header) e ∙ k .fields in
+      let header : r .header ≡ commonAt bytes = ap (λ (x : CommonHeaderRead). x .header) e ∙ k .fields in
       record { enough = k .long; factor = rw header (k .factor) }
 
 -- THE ADDRESS HEADER

@@ -9,9 +9,8 @@ use lib.Dec.{eqb}
 use lib.ListN.{length}
 use borrow.Author.Tests.{eqb-false}
 use Rattle.wire_encoding.specs.Choice.{pick}
-use Rattle.path_meta_header.specs.MetaHeader.{infoFieldsCount, hopFieldsCount, firstHopField, segmentLength, segmentLengthOf, pathLength}
+use Rattle.path_meta_header.specs.MetaHeader.{infoFieldsCount, hopFieldsCount, firstHopField, segmentLength, segmentLengthOf, pathLength, infoStart, hopStart}
 use Rattle.path_meta_header.specs.declared.PathMetaHeader.{PathMetaHeader}
-use Rattle.path.specs.Segment.{infoStart, hopStart}
 
 -- segment k has a hop field, and its hop fields are among the path's
 pub segment-within : (m : PathMetaHeader) (k : ℕ) → k < infoFieldsCount m

@@ -1,22 +1,14 @@
 -- Segments of a standard path.
-use Prim.Native.Nat.{ℕ, _+_, _*_}
+use Prim.Native.Nat.{ℕ, _*_}
 use lib.Dec.{ltb}
 use Rattle.wire_encoding.specs.Choice.{pick}
-use Rattle.path_meta_header.specs.MetaHeader.{infoFieldsCount, firstHopField, segmentLengthOf}
-use Rattle.path_meta_header.specs.declared.PathMetaHeader.{PathMetaHeader}
+use Rattle.path_meta_header.specs.MetaHeader.{infoFieldsCount, firstHopField, segmentLengthOf, infoStart, hopStart}
 use Rattle.path_error.specs.declared.Answer.the-variants.{Accepted, Refused}
 use Rattle.path_error.specs.declared.PathError.{PathError}
 use Rattle.path_error.specs.declared.PathError.the-variants.{NoSuchField}
 use Rattle.path.specs.Standard.{zeroPath}
 use Rattle.path.specs.declared.standard.StandardPath.{StandardPath}
 use Rattle.path.specs.declared.standard.segment.Segment.{Segment}
-
--- info field k of a path's bytes, and hop field j
-abbrev pub infoStart : ℕ → ℕ
-infoStart k = 4 + k * 8
-
-abbrev pub hopStart : PathMetaHeader → ℕ → ℕ
-hopStart m j = 4 + infoFieldsCount m * 8 + j * 12
 
 unfoldable pub noSegment : PathError → Segment
 noSegment error =

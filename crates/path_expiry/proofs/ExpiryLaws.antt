@@ -8,10 +8,9 @@ use native.Mathlib.Omega.{arith}
 use lib.ListN.{length, getD}
 use Rattle.wire_encoding.specs.BigEndian.{bigEndian, part}
 use Rattle.wire_encoding.proofs.Parts.{length-part, getD-part}
-use Rattle.path_meta_header.specs.MetaHeader.{infoFieldsCount, firstHopField, segmentLengthOf, pathLength}
+use Rattle.path_meta_header.specs.MetaHeader.{infoFieldsCount, firstHopField, segmentLengthOf, pathLength, infoStart, hopStart}
 use Rattle.path_fields.specs.Fields.{infoFieldAt, hopFieldAt, expiryOffset, expiryTime}
 use Rattle.path_meta_header.specs.declared.PathMetaHeader.{PathMetaHeader}
-use Rattle.path.specs.Segment.{infoStart, hopStart}
 use Rattle.path.proofs.SegmentLaws.{inside}
 use Rattle.path_expiry.specs.Expiry.{least, expTimeAt, hopExpiry, segmentExpiry}
 

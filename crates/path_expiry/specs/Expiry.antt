@@ -5,7 +5,7 @@ use lib.ListN.{getD}
 use lib.IntN.{pos, subℕ}
 use lib.Dec.{ltb, leb}
 use Rattle.wire_encoding.specs.Choice.{pick}
-use Rattle.path_meta_header.specs.MetaHeader.{infoFieldsCount}
+use Rattle.path_meta_header.specs.MetaHeader.{infoFieldsCount, firstHopField, segmentLengthOf, infoStart, hopStart}
 use Rattle.path_fields.specs.Fields.{infoFieldAt, hopFieldAt}
 use Rattle.path_meta_header.specs.declared.PathMetaHeader.{PathMetaHeader}
 use Rattle.path_error.specs.declared.Answer.the-variants.{Accepted, Refused}
@@ -18,11 +18,9 @@ use Rattle.path_expiry.specs.declared.TimeLeft.{TimeLeft}
 use Prim.Native.Nat.{ℕ, zero, suc, _+_, _*_, _-_, min}
 use lib.ListN.{getD}
 use lib.Dec.{ltb}
-use Rattle.path_meta_header.specs.MetaHeader.{infoFieldsCount, firstHopField, segmentLengthOf}
 use Rattle.path_fields.specs.Fields.{infoFieldAt, hopFieldAt, expiryTime}
 use Rattle.path_error.specs.declared.PathError.the-variants.{NoSuchField}
 use Rattle.path.specs.Standard.{zeroPath}
-use Rattle.path.specs.Segment.{infoStart, hopStart}
 use Rattle.path.specs.Dataplane.{carriedOut, onStandard}
 
 -- the least of f 0, f 1, .. f last

@@ -11,12 +11,12 @@ use lib.Dec.{ltb}
 use borrow.Author.Tests.{ltb-true, lt-ltb}
 use Rattle.wire_encoding.specs.BigEndian.{part}
 use Rattle.wire_encoding.proofs.Parts.{length-part, part-part}
-use Rattle.path_meta_header.specs.MetaHeader.{infoFieldsCount, hopFieldsCount, firstHopField, segmentLengthOf, pathLength, hopFieldOffset}
+use Rattle.path_meta_header.specs.MetaHeader.{infoFieldsCount, hopFieldsCount, firstHopField, segmentLengthOf, pathLength, hopFieldOffset, hopStart}
 use Rattle.path_meta_header.specs.declared.PathMetaHeader.{PathMetaHeader}
 use Rattle.path_error.specs.declared.Answer.{Answer}
 use Rattle.path_error.specs.declared.Answer.the-variants.{Accepted, Refused}
 use Rattle.path_error.specs.declared.PathError.{PathError}
-use Rattle.path.specs.Segment.{hopStart, noSegment, segmentOfPath}
+use Rattle.path.specs.Segment.{noSegment, segmentOfPath}
 use Rattle.path.specs.Dataplane.{standardOf, carriedOut, onStandard, locatedAt, segmentIn, hopFieldIn, partIn}
 use Rattle.path.proofs.SegmentLaws.{segment-within}
 use Rattle.path.proofs.Reading.{standard-readable}

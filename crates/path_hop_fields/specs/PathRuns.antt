@@ -2,9 +2,8 @@
 use Prim.Native.Nat.{ℕ, _*_, _+_, _<_}
 use mathlib.Core.List.{List}
 use Rattle.wire_encoding.specs.BigEndian.{part}
-use Rattle.path_meta_header.specs.MetaHeader.{hopFieldsCount, firstHopField, segmentLengthOf}
+use Rattle.path_meta_header.specs.MetaHeader.{hopFieldsCount, firstHopField, segmentLengthOf, hopStart}
 use Rattle.path_error.specs.declared.Answer.the-variants.{Accepted}
-use Rattle.path.specs.Segment.{hopStart}
 use Rattle.path.specs.Dataplane.{onStandard, notLocated, standardOf, segmentIn, hopFieldIn, partIn}
 use Rattle.path.specs.declared.dataplane.Located.{Located}
 use mathlib.Core.Path.{_≡_}

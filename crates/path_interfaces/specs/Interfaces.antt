@@ -7,7 +7,7 @@ use lib.Dec.{eqb}
 use Rattle.wire_encoding.specs.Choice.{pick}
 use Rattle.bits.specs.Bits.{withBit}
 use Rattle.wire_encoding.specs.BigEndian.{part}
-use Rattle.path_meta_header.specs.MetaHeader.{infoFieldsCount, segmentOf, interfacesCount, hopFieldOf}
+use Rattle.path_meta_header.specs.MetaHeader.{infoFieldsCount, segmentOf, interfacesCount, hopFieldOf, infoStart, hopStart}
 use Rattle.path_fields.specs.Fields.{infoFieldAt, hopFieldAt, ingressInterface, egressInterface}
 use Rattle.path_meta_header.specs.declared.PathMetaHeader.{PathMetaHeader}
 use Rattle.path_meta_header.specs.declared.HopFieldOf.{HopFieldOf}
@@ -25,11 +25,9 @@ use Rattle.path_interfaces.specs.declared.InterfaceCount.{InterfaceCount
 use Rattle.path_interfaces.specs.declared.InterfaceAt.{InterfaceAt}
 use Prim.Native.Nat.{ℕ, _+_, _-_}
 use lib.ListN.{getD}
-use Rattle.path_meta_header.specs.MetaHeader.{infoFieldsCount}
 use Rattle.path_fields.specs.Fields.{infoFieldAt, hopFieldAt}
 use Rattle.path_error.specs.declared.PathError.the-variants.{NoSuchField}
 use Rattle.path.specs.Standard.{zeroPath}
-use Rattle.path.specs.Segment.{infoStart, hopStart}
 use Rattle.path.specs.Dataplane.{onStandard, answered, hopFieldIn}
 
 -- INTERFACES

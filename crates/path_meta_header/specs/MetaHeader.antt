@@ -59,16 +59,23 @@ firstHopField m k = pick (eqb k 0) 0 (pick (eqb k 1) (segmentLength m 0) (segmen
 unfoldable pub segmentLengthOf : PathMetaHeader → ℕ → ℕ
 segmentLengthOf m k = pick (eqb k 0) (segmentLength m 0) (pick (eqb k 1) (segmentLength m 1) (segmentLength m 2))
 
+-- where info field k and hop field j start
+abbrev pub infoStart : ℕ → ℕ
+infoStart k = 4 + k * 8
+
+abbrev pub hopStart : PathMetaHeader → ℕ → ℕ
+hopStart m j = 4 + infoFieldsCount m * 8 + j * 12
+
 -- 4 + 8 · I + 12 · N
 unfoldable pub pathLength : PathMetaHeader → ℕ
-pathLength m = 4 + infoFieldsCount m * 8 + hopFieldsCount m * 12
+pathLength m = hopStart m (hopFieldsCount m)
 
--- where info field k and hop field j start
+-- the same starts, 8 for a field that isn't there
 unfoldable pub infoFieldOffset : PathMetaHeader → ℕ → Offset
-infoFieldOffset m k = pick (ltb k (infoFieldsCount m)) (offset.At (4 + k * 8)) offset.NoSuchField
+infoFieldOffset m k = pick (ltb k (infoFieldsCount m)) (offset.At (infoStart k)) offset.NoSuchField
 
 unfoldable pub hopFieldOffset : PathMetaHeader → ℕ → Offset
-hopFieldOffset m j = pick (ltb j (hopFieldsCount m)) (offset.At (4 + infoFieldsCount m * 8 + j * 12)) offset.NoSuchField
+hopFieldOffset m j = pick (ltb j (hopFieldsCount m)) (offset.At (hopStart m j)) offset.NoSuchField
 
 -- 2 · (N − I) interfaces: a segment of s hop fields has s − 1 links, and each link two interfaces
 unfoldable pub interfacesCount : PathMetaHeader → ℕ

@@ -12,11 +12,10 @@ use Rattle.wire_encoding.specs.Choice.{pick}
 use Rattle.bits.specs.Bits.{bitOf, withBit}
 use Rattle.wire_encoding.specs.BigEndian.{bigEndian, part}
 use Rattle.wire_encoding.proofs.Numbers.{read-part}
-use Rattle.path_meta_header.specs.MetaHeader.{segmentLength, infoFieldsCount, hopFieldsCount, segmentOf}
+use Rattle.path_meta_header.specs.MetaHeader.{segmentLength, infoFieldsCount, hopFieldsCount, segmentOf, infoStart, hopStart}
 use Rattle.path_fields.specs.Fields.{infoFieldAt, withConstructedDir}
 use Rattle.path_meta_header.specs.declared.PathMetaHeader.{PathMetaHeader}
 use Rattle.path_fields.specs.declared.InfoField.{InfoField}
-use Rattle.path.specs.Segment.{infoStart, hopStart}
 use Rattle.path.proofs.Links.{segment-below}
 use Rattle.moves.specs.Moves.{atPosition, changeInside, codeOf, moveBytes, moveFrom, movedMeta, positionOf}
 use Rattle.move_rules.specs.Rules.{flagsAt, ownerOf, spared}

@@ -24,7 +24,7 @@ use Rattle.reverse.proofs.Laws.{other-size, reversed-whole}
 use Rattle.moves.specs.Moves.{iterate, moveAnswer, moved, notLast, walkAnswer, walkCount, walkMoves, walked}
 use Rattle.move_rules.specs.Rules.{onMovable}
 use Rattle.move_rules.proofs.Known.{accepted, known-movable, standard-read}
-use Rattle.round_trip.specs.RoundTrip.{headerOf, Begun}
+use Rattle.round_trip.specs.RoundTrip.{metaHeaderOf, Begun}
 use Rattle.round_trip.proofs.Mirror.{Path}
 
 -- no answer is both
@@ -32,8 +32,8 @@ never : {error : PathError} → Refused error ≡ Accepted → ⊥
 never h = let z : _≡_ {A = ℕ} 0 1 = cc in omega arith
 
 -- the path begun with
-pub path-begun : (b : List ℕ) → Begun b → Path b (headerOf b)
-unfolding headerOf
+pub path-begun : (b : List ℕ) → Begun b → Path b (metaHeaderOf b)
+unfolding metaHeaderOf
 path-begun b g =
     record {
       known = record { path = standard-readable b 1 (g .read); few = g .few; peering = g .peering };

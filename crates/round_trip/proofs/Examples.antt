@@ -41,8 +41,8 @@ use Rattle.round_trip.specs.RoundTrip.{
   after,
   begin,
   first,
-  headerOf,
-  hopFields,
+  metaHeaderOf,
+  hopCount,
   meets,
   other,
   reply,
@@ -97,7 +97,7 @@ unfolding bigEndian numberAt room meta.nthField meta.metaOf meta.infoFieldsCount
     meta.firstHopField meta.pathLength meta.lengthsValid meta.hopValid meta.infoValid meta.firstRefusal meta.checked meta.settled
     meta.metaRead meta.readMeta fields.infoFieldAt standard.complete standard.readPath dataplane.standardRead
     dataplane.readDataplane dataplane.standardAnswer dataplane.standardOf rules.ownerOf rules.spared moves.changeInside
-    round.headerOf round.accumulatorAfter round.accumulatorBy accumulators peered info hop hops
+    round.metaHeaderOf round.accumulatorAfter round.accumulatorBy accumulators peered info hop hops
 by-alone = refl
 
 -- its reply's header and info fields
@@ -110,7 +110,7 @@ unfolding bigEndian bytesOf numberAt room withBit meta.nthField meta.metaOf meta
     dataplane.carriedOut dataplane.onStandard dataplane.answered copy.destination copy.destinationIn copy.copiedBy
     rules.ownerOf rules.spared moves.changeInside moves.positionOf moves.moveFrom moves.applied moves.moveBytes rules.peerings
     rules.peeringAllowed rules.stateOf rules.movableOf rules.onMovable moves.notLast moves.moved moves.walkMoves moves.walkCount
-    moves.walked reverse.reversedRecords reverse.flipped reverse.reversedPath reverse.reversedRun reverse.reversed round.headerOf
+    moves.walked reverse.reversedRecords reverse.flipped reverse.reversedPath reverse.reversedRun reverse.reversed round.metaHeaderOf
     round.reply peered info hop hops
 reply-begins = refl
 
@@ -141,9 +141,9 @@ unfolding bigEndian bytesOf numberAt room withBit meta.nthField meta.metaOf meta
     dataplane.carriedOut dataplane.onStandard dataplane.answered copy.destination copy.destinationIn copy.copiedBy
     rules.ownerOf rules.spared moves.changeInside moves.positionOf moves.moveFrom moves.applied moves.moveBytes rules.peerings
     rules.peeringAllowed rules.stateOf rules.movableOf rules.onMovable moves.notLast moves.moved moves.walkMoves moves.walkCount
-    moves.walked reverse.reversedRecords reverse.flipped reverse.reversedPath reverse.reversedRun reverse.reversed round.headerOf moves.atPosition moves.movedMeta moves.moveAnswer moves.noWalk moves.walkAnswer
+    moves.walked reverse.reversedRecords reverse.flipped reverse.reversedPath reverse.reversedRun reverse.reversed round.metaHeaderOf moves.atPosition moves.movedMeta moves.moveAnswer moves.noWalk moves.walkAnswer
     reverse.same reverse.reversedRecord reverse.reverseAnswer dataplane.answerRefused
-    round.begin round.byEnd round.onTheWay round.onPacket round.onAccepted round.sent round.moved round.walked round.without
+    round.begin round.byEnd round.onTheWay round.onPacket round.onAccepted round.sent round.packetMoved round.packetWalked round.without
     round.atLast round.holding round.arrived round.step round.after travels counts begins leaves peered info hop hops
 travelled = refl
 
@@ -153,7 +153,7 @@ unfolding bigEndian numberAt room meta.nthField meta.metaOf meta.infoFieldsCount
     meta.firstHopField meta.pathLength meta.lengthsValid meta.hopValid meta.infoValid meta.firstRefusal meta.checked meta.settled
     meta.metaRead meta.readMeta fields.infoFieldAt fields.hopFieldAt fields.interfaceOf fields.ingressInterface fields.egressInterface
     standard.complete standard.readPath dataplane.standardRead dataplane.readDataplane dataplane.standardAnswer dataplane.standardOf
-    rules.ownerOf rules.spared moves.changeInside round.headerOf round.accumulatorAfter round.accumulatorBy round.infoOf round.meeting
+    rules.ownerOf rules.spared moves.changeInside round.metaHeaderOf round.accumulatorAfter round.accumulatorBy round.infoOf round.meeting
     round.byPath round.exchanged round.byEnd round.meets peered info hop hops
 met-back = refl
 
@@ -180,12 +180,12 @@ asked b =
     record {
       bytes = allBytes b;
       answer = dataplane.standardOf 1 b .answer;
-      exact = eqb (length b) (meta.pathLength (headerOf b));
-      few = leb (hopFields b) 64;
-      peering = rules.peeringAllowed b (headerOf b);
-      reserved = headerOf b .reserved;
-      info-start = headerOf b .«current_info_field»;
-      hop-start = headerOf b .«current_hop_field»;
+      exact = eqb (length b) (meta.pathLength (metaHeaderOf b));
+      few = leb (hopCount b) 64;
+      peering = rules.peeringAllowed b (metaHeaderOf b);
+      reserved = metaHeaderOf b .reserved;
+      info-start = metaHeaderOf b .«current_info_field»;
+      hop-start = metaHeaderOf b .«current_hop_field»;
     }
 
 given : Asked
@@ -212,8 +212,8 @@ begun b e =
     record {
       bytes = every-byte b (ap (λ (a : Asked). a .bytes) e);
       read = ap (λ (a : Asked). a .answer) e;
-      exact = eqb-true (length b) (meta.pathLength (headerOf b)) (ap (λ (a : Asked). a .exact) e);
-      few = leb-true (hopFields b) 64 (ap (λ (a : Asked). a .few) e);
+      exact = eqb-true (length b) (meta.pathLength (metaHeaderOf b)) (ap (λ (a : Asked). a .exact) e);
+      few = leb-true (hopCount b) 64 (ap (λ (a : Asked). a .few) e);
       peering = ap (λ (a : Asked). a .peering) e;
       unreserved = ap (λ (a : Asked). a .reserved) e;
       info-start = ap (λ (a : Asked). a .info-start) e;
@@ -229,7 +229,7 @@ all-given : (asked single ≡ given)
 unfolding bigEndian numberAt room meta.nthField meta.metaOf meta.infoFieldsCount meta.hopFieldsCount meta.segmentOf
     meta.pathLength meta.lengthsValid meta.hopValid meta.infoValid meta.firstRefusal meta.checked meta.settled meta.metaRead
     meta.readMeta standard.complete standard.readPath dataplane.standardRead dataplane.readDataplane dataplane.standardAnswer
-    dataplane.standardOf rules.peerings rules.peeringAllowed round.headerOf single double triple peered shortest longest info hop
+    dataplane.standardOf rules.peerings rules.peeringAllowed round.metaHeaderOf single double triple peered shortest longest info hop
     hops asked given allBytes
 all-given = (refl, refl, refl, refl, refl, refl)
 

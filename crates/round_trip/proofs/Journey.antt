@@ -37,11 +37,11 @@ use Rattle.round_trip.specs.RoundTrip.{
   onPacket,
   onAccepted,
   sent,
-  moved,
-  walked,
+  packetMoved,
+  packetWalked,
   without,
-  headerOf,
-  hopFields,
+  metaHeaderOf,
+  hopCount,
   pointer,
   atLast,
   holding,
@@ -134,7 +134,7 @@ refused-is a changed kept e = rw e
 -- A PACKET
 
 record Tracked (b : List ℕ) (to : End) (bytes : List ℕ) (count : ℕ) : Type 0 where
-  below : count < hopFields b
+  below : count < hopCount b
   is : bytes ≡ track b to count
 
 abbrev Each : List ℕ → Packet → Type 0
@@ -142,7 +142,7 @@ Each b q = Tracked b (q .to) (q .bytes) (q .count)
 
 module _ (b : List ℕ) (g : Begun b) where
   abbrev N : ℕ
-  N = hopFields b
+  N = hopCount b
 
   module _ (q : Packet) (t : Each b q) where
     abbrev m : PathMetaHeader
@@ -151,7 +151,7 @@ module _ (b : List ℕ) (g : Begun b) where
     path : Path (q .bytes) m
     path = subst (λ (x : List ℕ). Path x m) (sym (t .is)) (track-path b g (q .to) (q .count) (t .below))
 
-    header : headerOf (q .bytes) ≡ m
+    header : metaHeaderOf (q .bytes) ≡ m
     header = header-read (q .bytes) m path
 
     hop : m .«current_hop_field» ≡ q .count
@@ -173,8 +173,8 @@ module _ (b : List ℕ) (g : Begun b) where
               ap met (t .is) ∙ track-met b g (q .to) (q .count) (t .below) ∙ ap (meets b (q .to)) (sym at-hop);
         }
 
-    moved-tracked : Each b (moved q)
-    unfolding moved
+    moved-tracked : Each b (packetMoved q)
+    unfolding packetMoved
     moved-tracked =
         let next : Packet = record { bytes = moves.moved 1 (q .bytes); to = q .to; count = q .count + 1 } in
         by-lt (q .count + 1) N
@@ -182,8 +182,8 @@ module _ (b : List ℕ) (g : Begun b) where
         (record { below = l; is = ap (moves.moved 1) (t .is) ∙ track-moved b g (q .to) (q .count) l }))
         (λ l. subst (Each b) (sym (refused-is (moves.moveAnswer 1 (q .bytes) .answer) next q (move-refused (q .bytes) m path (omega (arith, hop, hops))))) t)
 
-    walked-tracked : (limit : ℕ) → Each b (walked limit q)
-    unfolding walked
+    walked-tracked : (limit : ℕ) → Each b (packetWalked limit q)
+    unfolding packetWalked
     walked-tracked limit =
         let n : ℕ = moves.walkMoves m limit in
         let report = moves.walkAnswer 1 (q .bytes) limit in
@@ -202,13 +202,13 @@ module _ (b : List ℕ) (g : Begun b) where
     last-count : atLast (q .bytes) ≡ true → q .count + 1 ≡ N
     unfolding atLast
     last-count e =
-        omega (arith, eqb-true (pointer (q .bytes) + 1) (hopFields (q .bytes)) e, at-hop, ap hopFieldsCount header ∙ hops)
+        omega (arith, eqb-true (pointer (q .bytes) + 1) (hopCount (q .bytes)) e, at-hop, ap hopFieldsCount header ∙ hops)
 
   -- THE STATE
 
   record Holds (s : State) : Type 0 where
     packets : All (Each b) (s .packets)
-    counts : All (λ q. q .count + 1 ≡ hopFields b) (s .taken)
+    counts : All (λ q. q .count + 1 ≡ hopCount b) (s .taken)
     first-end : s .first-holds ≡ some b
     other-end : s .other-holds ≡ pick (reached (s .taken)) (some (reply b)) none
 
@@ -251,7 +251,7 @@ module _ (b : List ℕ) (g : Begun b) where
       go (some q) e = h q (all-get (Each b) (s .packets) i q (v .packets) e)
 
   -- the end takes the packet in
-  takes-in : (s : State) → Holds s → (i : ℕ) (to : End) (x : List ℕ) (c : ℕ) → Tracked b to x c → c + 1 ≡ hopFields b
+  takes-in : (s : State) → Holds s → (i : ℕ) (to : End) (x : List ℕ) (c : ℕ) → Tracked b to x c → c + 1 ≡ hopCount b
       → (dst : List ℕ) → length dst ≡ length b → Holds (holding s i (record { bytes = x; to = to; count = c }) (reversed 1 x dst))
   unfolding holding byEnd All reached
   takes-in s v i other x c t last dst e =
@@ -300,11 +300,11 @@ module _ (b : List ℕ) (g : Begun b) where
   on-step s v (sending first) = first-sends s v
   on-step s v (sending other) = other-sends s v
   on-step s v (single-move i) =
-      on-packet s i (λ q. onTheWay s (set (s .packets) i (moved q))) v
-      (λ q t. on-the-way s v (set (s .packets) i (moved q)) (all-set (Each b) (s .packets) i (moved q) (v .packets) (moved-tracked q t)))
+      on-packet s i (λ q. onTheWay s (set (s .packets) i (packetMoved q))) v
+      (λ q t. on-the-way s v (set (s .packets) i (packetMoved q)) (all-set (Each b) (s .packets) i (packetMoved q) (v .packets) (moved-tracked q t)))
   on-step s v (walk i limit) =
-      on-packet s i (λ q. onTheWay s (set (s .packets) i (walked limit q))) v
-      (λ q t. on-the-way s v (set (s .packets) i (walked limit q)) (all-set (Each b) (s .packets) i (walked limit q) (v .packets) (walked-tracked q t limit)))
+      on-packet s i (λ q. onTheWay s (set (s .packets) i (packetWalked limit q))) v
+      (λ q t. on-the-way s v (set (s .packets) i (packetWalked limit q)) (all-set (Each b) (s .packets) i (packetWalked limit q) (v .packets) (walked-tracked q t limit)))
   on-step s v (loss i) = on-the-way s v (without i (s .packets)) (all-without (Each b) (s .packets) i (v .packets))
   on-step s v (doubling i) =
       on-packet s i (λ q. onTheWay s (s .packets ++ (q ∷ []))) v
@@ -322,7 +322,7 @@ module _ (b : List ℕ) (g : Begun b) where
       let v : Holds s = on-events (begin b) at-first events in
       record {
         standing = all-map (Each b) (Stands b) stands (s .packets) (v .packets);
-        walking = λ limit. all-map (Each b) (λ q. Stands b (walked limit q)) (λ q t. stands (walked limit q) (walked-tracked q t limit)) (s .packets) (v .packets);
+        walking = λ limit. all-map (Each b) (λ q. Stands b (packetWalked limit q)) (λ q t. stands (packetWalked limit q) (walked-tracked q t limit)) (s .packets) (v .packets);
         counts = v .counts;
         first-end = v .first-end;
         other-end = v .other-end;

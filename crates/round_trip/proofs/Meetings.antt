@@ -10,7 +10,7 @@ use lib.ListN.{length}
 use Rattle.wire_encoding.specs.Choice.{pick}
 use Rattle.bits.specs.Bits.{bitOf}
 use Rattle.wire_encoding.specs.BigEndian.{part}
-use Rattle.path_meta_header.specs.MetaHeader.{infoFieldsCount, hopFieldsCount, segmentOf}
+use Rattle.path_meta_header.specs.MetaHeader.{infoFieldsCount, hopFieldsCount, segmentOf, infoStart, hopStart}
 use Rattle.path_fields.specs.Fields.{
   infoFieldAt,
   withConstructedDir,
@@ -24,12 +24,11 @@ use Rattle.path_meta_header.specs.declared.PathMetaHeader.{PathMetaHeader}
 use Rattle.path_fields.specs.declared.InfoField.{InfoField}
 use Rattle.path_fields.specs.declared.HopField.{HopField}
 use Rattle.path_fields.proofs.FieldLaws.{hop-of-part}
-use Rattle.path.specs.Segment.{infoStart, hopStart}
 use Rattle.path.specs.declared.dataplane.PathAnswer.{PathAnswer}
 use Rattle.path.proofs.Links.{segment-below}
 use Rattle.moves.specs.Moves.{atPosition}
 use Rattle.move_rules.proofs.Known.{standard-read}
-use Rattle.round_trip.specs.RoundTrip.{headerOf, Meeting, infoOf, meeting, met, accumulatorBy, byPath, exchanged}
+use Rattle.round_trip.specs.RoundTrip.{metaHeaderOf, Meeting, infoOf, meeting, met, accumulatorBy, byPath, exchanged}
 use Rattle.round_trip.proofs.Shape.{turnedMeta, mirrorMeta}
 use Rattle.round_trip.proofs.Turned.{turnedInfo}
 use Rattle.round_trip.proofs.Mirror.{
@@ -48,8 +47,8 @@ use Rattle.round_trip.proofs.Moved.{path-whole}
 use Rattle.round_trip.proofs.Onward.{standingAt, Onward}
 
 -- reading a path finds its header
-pub header-read : (x : List ℕ) (m : PathMetaHeader) → Path x m → headerOf x ≡ m
-unfolding headerOf
+pub header-read : (x : List ℕ) (m : PathMetaHeader) → Path x m → metaHeaderOf x ≡ m
+unfolding metaHeaderOf
 header-read x m path = ap (λ (r : PathAnswer). r .path .«meta_header») (standard-read x m (path .known .path))
 
 -- hop field j under a header
@@ -101,9 +100,9 @@ module _ (f g : InfoField) (h i : HopField) (same : h ≡ i) where
       ap₂ (λ (t : Bool) (j : HopField). interfaceOf (pick t (j .«cons_egress») (j .«cons_ingress»))) e same
       ∙ ap interfaceOf (turn-pick (bitOf 0 (g .flags)) (i .«cons_egress») (i .«cons_ingress»))
 
-module _ (b : List ℕ) (path : Path b (headerOf b)) (p : ℕ) (x : List ℕ) (o : Onward b p x) where
+module _ (b : List ℕ) (path : Path b (metaHeaderOf b)) (p : ℕ) (x : List ℕ) (o : Onward b p x) where
   abbrev m : PathMetaHeader
-  m = headerOf b
+  m = metaHeaderOf b
 
   abbrev mx : PathMetaHeader
   mx = standingAt m p
@@ -223,7 +222,7 @@ module _ (b : List ℕ) (path : Path b (headerOf b)) (p : ℕ) (x : List ℕ) (o
       let exit = egress-turned f g h j hop-back flags-back in
       λ i. record { field = field i; accumulator = accumulator i; entry = entry i; exit = exit i }
 
-  pub met-mirror : met (mirror (standingAt (headerOf b) p) x) ≡ exchanged (byPath b p)
+  pub met-mirror : met (mirror (standingAt (metaHeaderOf b) p) x) ≡ exchanged (byPath b p)
   unfolding byPath meeting infoOf
   met-mirror =
       met-under z mz (path-mirror x mx (o .path))

@@ -14,13 +14,12 @@ use Rattle.bits.specs.Bits.{bitOf, withBit}
 use Rattle.wire_encoding.specs.BigEndian.{bigEndian, part}
 use Rattle.bits.proofs.BitLaws.{bit-kept}
 use Rattle.wire_encoding.proofs.Parts.{Bytes}
-use Rattle.path_meta_header.specs.MetaHeader.{nthField, metaOf, segmentLength, infoFieldsCount, hopFieldsCount, pathLength, segmentOf, hopValid}
+use Rattle.path_meta_header.specs.MetaHeader.{nthField, metaOf, segmentLength, infoFieldsCount, hopFieldsCount, pathLength, segmentOf, hopValid, infoStart, hopStart}
 use Rattle.meta_header_reversal.specs.Reversal.{atStart, reversedLengths, reversedMeta}
 use Rattle.path_fields.specs.Fields.{infoFieldAt, withConstructedDir}
 use Rattle.path_meta_header.specs.declared.PathMetaHeader.{PathMetaHeader}
 use Rattle.path_fields.specs.declared.InfoField.{InfoField}
 use Rattle.meta_header_encoding.proofs.EncodingLaws.{Fitting}
-use Rattle.path.specs.Segment.{infoStart, hopStart}
 use Rattle.reverse.specs.Reverse.{reversedPath}
 use Rattle.move_rules.specs.Rules.{flagsAt, peerings, peeringAllowed}
 use Rattle.move_rules.proofs.Known.{Known}

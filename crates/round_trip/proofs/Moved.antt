@@ -15,11 +15,10 @@ use Rattle.wire_encoding.specs.Choice.{pick}
 use Rattle.wire_encoding.specs.BigEndian.{bigEndian, bytesOf, part}
 use Rattle.wire_encoding.proofs.Parts.{length-part, getD-part}
 use Rattle.wire_encoding.proofs.Numbers.{below, read-written}
-use Rattle.path_meta_header.specs.MetaHeader.{segmentLength, infoFieldsCount, hopFieldsCount, pathLength, segmentOf}
+use Rattle.path_meta_header.specs.MetaHeader.{segmentLength, infoFieldsCount, hopFieldsCount, pathLength, segmentOf, infoStart, hopStart}
 use Rattle.path_fields.specs.Fields.{infoFieldAt}
 use Rattle.path_meta_header.specs.declared.PathMetaHeader.{PathMetaHeader}
 use Rattle.path_fields.specs.declared.InfoField.{InfoField}
-use Rattle.path.specs.Segment.{infoStart, hopStart}
 use Rattle.moves.specs.declared.Moved.{Moved}
 use Rattle.moves.specs.Moves.{CanMove, atPosition, applied, changeInside, codeOf, moveBytes, moveFrom, movedMeta, positionOf}
 use Rattle.move_rules.specs.Rules.{flagsAt, ownerOf, spared}

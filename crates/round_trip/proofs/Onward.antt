@@ -12,16 +12,15 @@ use lib.Bits.{bitXor, xor-zero-r}
 use borrow.Author.Tests.{eqb-true, eqb-false, eq-eqb, ne-eqb}
 use Rattle.wire_encoding.specs.Choice.{pick}
 use Rattle.wire_encoding.specs.BigEndian.{part}
-use Rattle.path_meta_header.specs.MetaHeader.{segmentLength, infoFieldsCount, hopFieldsCount, segmentOf, firstHopField, lengthsValid}
+use Rattle.path_meta_header.specs.MetaHeader.{segmentLength, infoFieldsCount, hopFieldsCount, segmentOf, firstHopField, lengthsValid, infoStart, hopStart}
 use Rattle.path_fields.specs.Fields.{infoFieldAt}
 use Rattle.path_meta_header.specs.declared.PathMetaHeader.{PathMetaHeader}
 use Rattle.path_fields.specs.declared.InfoField.{InfoField}
-use Rattle.path.specs.Segment.{infoStart, hopStart}
 use Rattle.path.proofs.Links.{segment-below}
 use Rattle.moves.specs.Moves.{atPosition, changeInside, codeOf, iterate, moveBytes, moveFrom, moved, movedMeta, positionOf}
 use Rattle.move_rules.specs.Rules.{flagsAt, ownerOf, spared}
 use Rattle.moves.proofs.Laws.{one-move}
-use Rattle.round_trip.specs.RoundTrip.{headerOf, hopFields, accumulatorAfter, accumulatorBy}
+use Rattle.round_trip.specs.RoundTrip.{metaHeaderOf, hopCount, accumulatorAfter, accumulatorBy}
 use Rattle.round_trip.proofs.Fields.{by-lt}
 use Rattle.round_trip.proofs.Shape.{in-first, in-second, in-third}
 use Rattle.round_trip.proofs.Mirror.{Path, same-meta, hop-named}
@@ -72,7 +71,7 @@ module _ (m : PathMetaHeader) (p : ℕ) where
 
 module _ (b : List ℕ) (p : ℕ) where
   abbrev hb : PathMetaHeader
-  hb = headerOf b
+  hb = metaHeaderOf b
 
   by-start : accumulatorBy b 0 ≡ infoFieldAt b (infoStart (segmentOf hb 0)) .accumulator
   unfolding accumulatorBy accumulatorAfter
@@ -101,17 +100,17 @@ module _ (b : List ℕ) (p : ℕ) where
 -- THE PATH AFTER p MOVES
 
 pub record Onward (b : List ℕ) (p : ℕ) (x : List ℕ) : Type 0 where
-  pub path : Path x (standingAt (headerOf b) p)
-  pub fields : (j : ℕ) → j < hopFields b → part (hopStart (headerOf b) j) 12 x ≡ part (hopStart (headerOf b) j) 12 b
-  pub flags : (k : ℕ) → k < infoFieldsCount (headerOf b) → flagsAt x k ≡ flagsAt b k
-  pub later : (k : ℕ) → segmentOf (headerOf b) p < k → k < infoFieldsCount (headerOf b)
+  pub path : Path x (standingAt (metaHeaderOf b) p)
+  pub fields : (j : ℕ) → j < hopCount b → part (hopStart (metaHeaderOf b) j) 12 x ≡ part (hopStart (metaHeaderOf b) j) 12 b
+  pub flags : (k : ℕ) → k < infoFieldsCount (metaHeaderOf b) → flagsAt x k ≡ flagsAt b k
+  pub later : (k : ℕ) → segmentOf (metaHeaderOf b) p < k → k < infoFieldsCount (metaHeaderOf b)
       → infoFieldAt x (infoStart k) .accumulator ≡ infoFieldAt b (infoStart k) .accumulator
-  pub meets : infoFieldAt x (infoStart (segmentOf (headerOf b) p)) .accumulator ≡ accumulatorBy b p
+  pub meets : infoFieldAt x (infoStart (segmentOf (metaHeaderOf b) p)) .accumulator ≡ accumulatorBy b p
 
-onward-start : (b : List ℕ) → Path b (headerOf b) → headerOf b .«current_hop_field» ≡ 0 → Onward b 0 b
+onward-start : (b : List ℕ) → Path b (metaHeaderOf b) → metaHeaderOf b .«current_hop_field» ≡ 0 → Onward b 0 b
 unfolding standingAt atPosition
 onward-start b path start =
-    let m : PathMetaHeader = headerOf b in
+    let m : PathMetaHeader = metaHeaderOf b in
     let named : m .«current_info_field» ≡ segmentOf m 0 = sym (hop-named b m path) ∙ ap (segmentOf m) start in
     record {
       path = subst (Path b) (same-meta m (standingAt m 0) named start refl refl) path;
@@ -121,9 +120,9 @@ onward-start b path start =
       meets = sym (by-start b 0);
     }
 
-module _ (b : List ℕ) (valid : lengthsValid (headerOf b) ≡ true) (p : ℕ) (x : List ℕ) (o : Onward b p x) (l : p + 1 < hopFields b) where
+module _ (b : List ℕ) (valid : lengthsValid (metaHeaderOf b) ≡ true) (p : ℕ) (x : List ℕ) (o : Onward b p x) (l : p + 1 < hopCount b) where
   abbrev m : PathMetaHeader
-  m = headerOf b
+  m = metaHeaderOf b
 
   abbrev mx : PathMetaHeader
   mx = standingAt m p
@@ -211,7 +210,7 @@ module _ (b : List ℕ) (valid : lengthsValid (headerOf b) ≡ true) (p : ℕ) (
           ∙ o .later next (omega (arith, segment-up m p, new)) next-below
           ∙ sym (by-new b p new)
 
-  onward-next : Onward b (p + 1) (moveBytes x (standingAt (headerOf b) p))
+  onward-next : Onward b (p + 1) (moveBytes x (standingAt (metaHeaderOf b) p))
   unfolding standingAt atPosition movedMeta moveFrom positionOf segmentOf
   onward-next =
       record {
@@ -225,7 +224,7 @@ module _ (b : List ℕ) (valid : lengthsValid (headerOf b) ≡ true) (p : ℕ) (
   onward-moved : Onward b (p + 1) (moved 1 x)
   onward-moved = subst (Onward b (p + 1)) (sym (one-move x mx (can-move x mx (o .path) before-last))) onward-next
 
-pub onward : (b : List ℕ) → Path b (headerOf b) → headerOf b .«current_hop_field» ≡ 0 → (p : ℕ) → p < hopFields b → Onward b p (iterate p (moved 1) b)
+pub onward : (b : List ℕ) → Path b (metaHeaderOf b) → metaHeaderOf b .«current_hop_field» ≡ 0 → (p : ℕ) → p < hopCount b → Onward b p (iterate p (moved 1) b)
 onward b path start zero l = onward-start b path start
 onward b path start (suc p) l =
     rw (← add-one p)

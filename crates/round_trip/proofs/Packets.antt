@@ -18,8 +18,8 @@ use Rattle.round_trip.specs.RoundTrip.{
   first,
   other,
   byEnd,
-  headerOf,
-  hopFields,
+  metaHeaderOf,
+  hopCount,
   met,
   Begun,
   meets,
@@ -36,19 +36,19 @@ use Rattle.round_trip.proofs.Calls.{path-begun, walked-moves, turn-acce
 -- the bytes of a packet to an end, after so many moves
 unfoldable pub track : List ℕ → End → ℕ → List ℕ
 track b other p = iterate p (moved 1) b
-track b first p = mirror (standingAt (headerOf b) (hopFields b - 1 - p)) (iterate (hopFields b - 1 - p) (moved 1) b)
+track b first p = mirror (standingAt (metaHeaderOf b) (hopCount b - 1 - p)) (iterate (hopCount b - 1 - p) (moved 1) b)
 
 -- and their header
 unfoldable pub trackMeta : List ℕ → End → ℕ → PathMetaHeader
-trackMeta b other p = standingAt (headerOf b) p
-trackMeta b first p = mirrorMeta (standingAt (headerOf b) (hopFields b - 1 - p))
+trackMeta b other p = standingAt (metaHeaderOf b) p
+trackMeta b first p = mirrorMeta (standingAt (metaHeaderOf b) (hopCount b - 1 - p))
 
 module _ (b : List ℕ) (g : Begun b) where
   abbrev m : PathMetaHeader
-  m = headerOf b
+  m = metaHeaderOf b
 
   abbrev N : ℕ
-  N = hopFields b
+  N = hopCount b
 
   path : Path b m
   path = path-begun b g
@@ -56,31 +56,31 @@ module _ (b : List ℕ) (g : Begun b) where
   at : (p : ℕ) → p < N → Onward b p (iterate p (moved 1) b)
   at p l = onward b path (g .hop-start) p l
 
-  pub some-hop : 0 < hopFields b
+  pub some-hop : 0 < hopCount b
   some-hop = omega (arith, hop-below b m path)
 
   -- WHAT A PACKET IS
 
-  pub track-path : (to : End) (p : ℕ) → p < hopFields b → Path (track b to p) (trackMeta b to p)
+  pub track-path : (to : End) (p : ℕ) → p < hopCount b → Path (track b to p) (trackMeta b to p)
   unfolding track trackMeta
   track-path other p l = at p l .path
   track-path first p l =
       let q : ℕ = N - 1 - p in
       path-mirror (iterate q (moved 1) b) (standingAt m q) (at q (omega arith) .path)
 
-  pub track-pointer : (to : End) (p : ℕ) → p < hopFields b → trackMeta b to p .«current_hop_field» ≡ p
+  pub track-pointer : (to : End) (p : ℕ) → p < hopCount b → trackMeta b to p .«current_hop_field» ≡ p
   unfolding trackMeta standingAt atPosition mirrorMeta turnedMeta hopFieldsCount
   track-pointer other p l = refl
   track-pointer first p l = omega arith
 
-  pub track-hops : (to : End) (p : ℕ) → p < hopFields b → hopFieldsCount (trackMeta b to p) ≡ hopFields b
+  pub track-hops : (to : End) (p : ℕ) → p < hopCount b → hopFieldsCount (trackMeta b to p) ≡ hopCount b
   unfolding trackMeta standingAt atPosition hopFieldsCount
   track-hops other p l = refl
   track-hops first p l =
       let q : ℕ = N - 1 - p in
       mirror-hops (iterate q (moved 1) b) (standingAt m q) (at q (omega arith) .path)
 
-  pub track-met : (to : End) (p : ℕ) → p < hopFields b → met (track b to p) ≡ meets b to p
+  pub track-met : (to : End) (p : ℕ) → p < hopCount b → met (track b to p) ≡ meets b to p
   unfolding track meets byEnd
   track-met other p l = met-onward b path p (iterate p (moved 1) b) (at p l)
   track-met first p l =
@@ -90,7 +90,7 @@ module _ (b : List ℕ) (g : Begun b) where
   -- A MOVE
 
   -- of the mirror image of B moved q + 1 times
-  module _ (q : ℕ) (l : q + 1 < hopFields b) where
+  module _ (q : ℕ) (l : q + 1 < hopCount b) where
     abbrev x : List ℕ
     x = iterate q (moved 1) b
 
@@ -117,7 +117,7 @@ module _ (b : List ℕ) (g : Begun b) where
         ∙ one-move (mirror my y) (mirrorMeta my) (can-move (mirror my y) (mirrorMeta my) back (back-before-last x mx x-path before-last))
         ∙ moved-back x mx x-path before-last
 
-  pub track-moved : (to : End) (p : ℕ) → p + 1 < hopFields b → moved 1 (track b to p) ≡ track b to (p + 1)
+  pub track-moved : (to : End) (p : ℕ) → p + 1 < hopCount b → moved 1 (track b to p) ≡ track b to (p + 1)
   unfolding track
   track-moved other p l = ap (λ (n : ℕ). iterate n (moved 1) b) (sym (add-one p))
   track-moved first p l =
@@ -127,24 +127,24 @@ module _ (b : List ℕ) (g : Begun b) where
 
   -- A WALK
 
-  track-moves : (to : End) (p n : ℕ) → p + n < hopFields b → iterate n (moved 1) (track b to p) ≡ track b to (p + n)
+  track-moves : (to : End) (p n : ℕ) → p + n < hopCount b → iterate n (moved 1) (track b to p) ≡ track b to (p + n)
   track-moves to p zero l = ap (track b to) (sym (add-zero p))
   track-moves to p (suc n) l =
       let up : p + n + 1 ≡ p + suc n = omega arith in
       ap (moved 1) (track-moves to p n (omega arith)) ∙ track-moved to (p + n) (omega arith) ∙ ap (track b to) up
 
   -- the moves that a walk makes
-  pub walk-inside : (to : End) (p : ℕ) → p < hopFields b → (limit : ℕ) → p + walkMoves (trackMeta b to p) limit < hopFields b
+  pub walk-inside : (to : End) (p : ℕ) → p < hopCount b → (limit : ℕ) → p + walkMoves (trackMeta b to p) limit < hopCount b
   unfolding walkMoves
   walk-inside to p l limit = omega (arith, track-pointer to p l, track-hops to p l)
 
-  pub track-walked : (to : End) (p : ℕ) → p < hopFields b → (limit : ℕ) → walked 1 (track b to p) limit ≡ track b to (p + walkMoves (trackMeta b to p) limit)
+  pub track-walked : (to : End) (p : ℕ) → p < hopCount b → (limit : ℕ) → walked 1 (track b to p) limit ≡ track b to (p + walkMoves (trackMeta b to p) limit)
   track-walked to p l limit =
       let n : ℕ = walkMoves (trackMeta b to p) limit in
       walked-moves (track b to p) (trackMeta b to p) (track-path to p l) limit ∙ track-moves to p n (walk-inside to p l limit)
 
   -- from the start
-  pub track-from-start : (to : End) (p : ℕ) → p < hopFields b → walked 1 (track b to 0) p ≡ track b to p
+  pub track-from-start : (to : End) (p : ℕ) → p < hopCount b → walked 1 (track b to 0) p ≡ track b to p
   unfolding walkMoves
   track-from-start to p l =
       let moves : 0 + walkMoves (trackMeta b to 0) p ≡ p = omega (arith, track-pointer to 0 some-hop, track-hops to 0 some-hop) in
@@ -152,19 +152,19 @@ module _ (b : List ℕ) (g : Begun b) where
 
   -- A TURN
 
-  pub track-infos : (to : End) (p : ℕ) → p < hopFields b → infoFieldsCount (trackMeta b to p) ≡ infoFieldsCount (headerOf b)
+  pub track-infos : (to : End) (p : ℕ) → p < hopCount b → infoFieldsCount (trackMeta b to p) ≡ infoFieldsCount (metaHeaderOf b)
   unfolding trackMeta standingAt atPosition infoFieldsCount
   track-infos other p l = refl
   track-infos first p l =
       let q : ℕ = N - 1 - p in
       mirror-infos (iterate q (moved 1) b) (standingAt m q) (at q (omega arith) .path)
 
-  pub track-length : (to : End) (p : ℕ) → p < hopFields b → length b ≡ pathLength (trackMeta b to p)
+  pub track-length : (to : End) (p : ℕ) → p < hopCount b → length b ≡ pathLength (trackMeta b to p)
   unfolding pathLength
   track-length to p l = omega (arith, path .exact, track-hops to p l, track-infos to p l)
 
   -- at the last hop field, into a destination of B's length
-  turned-mirror : (to : End) (p : ℕ) → p + 1 ≡ hopFields b → (dst : List ℕ) → length dst ≡ length b
+  turned-mirror : (to : End) (p : ℕ) → p + 1 ≡ hopCount b → (dst : List ℕ) → length dst ≡ length b
       → reversed 1 (track b to p) dst ≡ mirror (trackMeta b to p) (track b to p)
   turned-mirror to p last dst e =
       let l : p < N = omega arith in
@@ -173,13 +173,13 @@ module _ (b : List ℕ) (g : Begun b) where
       turn-accepted x mx (track-path to p l) dst (e ∙ track-length to p l) .1
       ∙ reversed-mirror x mx (track-path to p l) (omega (arith, track-pointer to p l, track-hops to p l))
 
-  pub turned-out : (p : ℕ) → p + 1 ≡ hopFields b → (dst : List ℕ) → length dst ≡ length b → reversed 1 (track b other p) dst ≡ track b first 0
+  pub turned-out : (p : ℕ) → p + 1 ≡ hopCount b → (dst : List ℕ) → length dst ≡ length b → reversed 1 (track b other p) dst ≡ track b first 0
   unfolding track trackMeta
   turned-out p last dst e =
       let all : p ≡ N - 1 - 0 = omega arith in
       turned-mirror other p last dst e ∙ ap (λ (q : ℕ). mirror (standingAt m q) (iterate q (moved 1) b)) all
 
-  pub turned-back : (p : ℕ) → p + 1 ≡ hopFields b → (dst : List ℕ) → length dst ≡ length b → reversed 1 (track b first p) dst ≡ b
+  pub turned-back : (p : ℕ) → p + 1 ≡ hopCount b → (dst : List ℕ) → length dst ≡ length b → reversed 1 (track b first p) dst ≡ b
   unfolding track trackMeta
   turned-back p last dst e =
       let q : ℕ = N - 1 - p in

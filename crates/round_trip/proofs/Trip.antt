@@ -29,10 +29,10 @@ use Rattle.round_trip.specs.RoundTrip.{
   onPacket,
   onAccepted,
   sent,
-  walked,
+  packetWalked,
   without,
-  headerOf,
-  hopFields,
+  metaHeaderOf,
+  hopCount,
   pointer,
   atLast,
   holding,
@@ -63,14 +63,14 @@ use Rattle.round_trip.proofs.Reply.{reply-turned}
 
 -- a path walked to its last hop field, on the way to an end
 abbrev pub atEnd : List ℕ → End → List ℕ → Packet
-atEnd b to x = record { bytes = moves.walked 1 x (hopFields b - 1); to = to; count = hopFields b - 1 }
+atEnd b to x = record { bytes = moves.walked 1 x (hopCount b - 1); to = to; count = hopCount b - 1 }
 
 module _ (b : List ℕ) (g : Begun b) where
   abbrev N : ℕ
-  N = hopFields b
+  N = hopCount b
 
   abbrev last : ℕ
-  last = hopFields b - 1
+  last = hopCount b - 1
 
   last-below : last < N
   last-below = omega (arith, some-hop b g)
@@ -89,8 +89,8 @@ module _ (b : List ℕ) (g : Begun b) where
     moves-all =
         omega (arith, walk-reports x m path last, track-pointer b g to 0 (some-hop b g), track-hops b g to 0 (some-hop b g))
 
-    walked-all : walked last (record { bytes = x; to = to; count = 0 }) ≡ atEnd b to x
-    unfolding walked
+    walked-all : packetWalked last (record { bytes = x; to = to; count = 0 }) ≡ atEnd b to x
+    unfolding packetWalked
     walked-all =
         let start : Packet = record { bytes = x; to = to; count = 0 } in
         let report = moves.walkAnswer 1 x last in
@@ -108,8 +108,8 @@ module _ (b : List ℕ) (g : Begun b) where
     unfolding atLast
     at-last =
         let y : List ℕ = moves.walked 1 x last in
-        let header : headerOf y ≡ trackMeta b to last = header-read y (trackMeta b to last) end-path in
-        eq-eqb (pointer y + 1) (hopFields y)
+        let header : metaHeaderOf y ≡ trackMeta b to last = header-read y (trackMeta b to last) end-path in
+        eq-eqb (pointer y + 1) (hopCount y)
         (omega (
           arith,
           ap (λ (h : PathMetaHeader). h .«current_hop_field») header,
@@ -170,5 +170,5 @@ module _ (b : List ℕ) (g : Begun b) where
       ∙ back-holds (atEnd b other b ∷ []) back size-back
 
   -- each was taken with as many moves as there are hop fields, less one
-  pub trip-counts : (to : End) (x : List ℕ) → atEnd b to x .count + 1 ≡ hopFields b
+  pub trip-counts : (to : End) (x : List ℕ) → atEnd b to x .count + 1 ≡ hopCount b
   trip-counts to x = omega (arith, some-hop b g)

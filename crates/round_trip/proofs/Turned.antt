@@ -15,14 +15,13 @@ use Rattle.wire_encoding.specs.BigEndian.{bigEndian, bytesOf, part}
 use Rattle.bits.proofs.BitLaws.{bit-kept}
 use Rattle.wire_encoding.proofs.Parts.{Bytes, length-part}
 use Rattle.wire_encoding.proofs.Numbers.{length-bytesOf, read-bytesOf}
-use Rattle.path_meta_header.specs.MetaHeader.{metaOf, infoFieldsCount, hopFieldsCount, pathLength}
+use Rattle.path_meta_header.specs.MetaHeader.{metaOf, infoFieldsCount, hopFieldsCount, pathLength, infoStart, hopStart}
 use Rattle.meta_header_encoding.specs.Encoding.{wordOf}
 use Rattle.path_fields.specs.Fields.{infoFieldAt, newInfoField, constructedDir, withConstructedDir}
 use Rattle.path_meta_header.specs.declared.PathMetaHeader.{PathMetaHeader}
 use Rattle.path_fields.specs.declared.InfoField.{InfoField}
 use Rattle.path_fields.proofs.FieldLaws.{info-of-part}
 use Rattle.meta_header_encoding.proofs.EncodingLaws.{Fitting, word-below, meta-back}
-use Rattle.path.specs.Segment.{infoStart, hopStart}
 use Rattle.reverse.specs.Reverse.{reversedRecords, flipped, same}
 use Rattle.reverse.proofs.Laws.{Sized, sized-flipped, sized-same, length-reversedRecords}
 

@@ -10,14 +10,13 @@ use lib.Dec.{eqb}
 use lib.Bits.{bitXor}
 use Rattle.wire_encoding.specs.Choice.{pick}
 use Rattle.wire_encoding.specs.BigEndian.{part}
-use Rattle.path_meta_header.specs.MetaHeader.{hopFieldsCount, pathLength, segmentOf, firstHopField}
+use Rattle.path_meta_header.specs.MetaHeader.{hopFieldsCount, pathLength, segmentOf, firstHopField, infoStart, hopStart}
 use Rattle.path_fields.specs.Fields.{infoFieldAt, hopFieldAt, ingressInterface, egressInterface}
 use Rattle.path_meta_header.specs.declared.PathMetaHeader.{PathMetaHeader}
 use Rattle.path_fields.specs.declared.InfoField.{InfoField}
 use Rattle.path_fields.specs.declared.Interface.{Interface}
 use Rattle.path_error.specs.declared.Answer.{Answer}
 use Rattle.path_error.specs.declared.Answer.the-variants.{Accepted, Refused}
-use Rattle.path.specs.Segment.{infoStart, hopStart}
 use Rattle.path.specs.Dataplane.{standardOf}
 use Rattle.reverse.specs.Reverse as reverse
 use Rattle.moves.specs.Moves as moves
@@ -81,13 +80,13 @@ sent s to none = s
 sent s to (some path) = onTheWay s (s .packets ++ (record { bytes = path; to = to; count = 0 } ∷ []))
 
 -- "Single move … of a packet: the call on its bytes; the count gains 1"
-unfoldable pub moved : Packet → Packet
-moved q =
+unfoldable pub packetMoved : Packet → Packet
+packetMoved q =
     onAccepted (moves.moveAnswer 1 (q .bytes) .answer) (record { bytes = moves.moved 1 (q .bytes); to = q .to; count = q .count + 1 }) q
 
 -- "or walk with any limit, of a packet: the call on its bytes; the count gains … what the walk reports"
-unfoldable pub walked : ℕ → Packet → Packet
-walked limit q =
+unfoldable pub packetWalked : ℕ → Packet → Packet
+packetWalked limit q =
     let report = moves.walkAnswer 1 (q .bytes) limit in
     onAccepted (report .answer) (record { bytes = moves.walked 1 (q .bytes) limit; to = q .to; count = q .count + report .moves }) q
 
@@ -98,19 +97,19 @@ without zero (q ∷ packets) = packets
 without (suc i) (q ∷ packets) = q ∷ without i packets
 
 -- the header that reading a path hands back
-unfoldable pub headerOf : List ℕ → PathMetaHeader
-headerOf bytes = standardOf 1 bytes .path .«meta_header»
+unfoldable pub metaHeaderOf : List ℕ → PathMetaHeader
+metaHeaderOf bytes = standardOf 1 bytes .path .«meta_header»
 
 -- N, and the hop pointer
-abbrev pub hopFields : List ℕ → ℕ
-hopFields bytes = hopFieldsCount (headerOf bytes)
+abbrev pub hopCount : List ℕ → ℕ
+hopCount bytes = hopFieldsCount (metaHeaderOf bytes)
 
 abbrev pub pointer : List ℕ → ℕ
-pointer bytes = headerOf bytes .«current_hop_field»
+pointer bytes = metaHeaderOf bytes .«current_hop_field»
 
 -- "a packet arrives when the pointer is N − 1"
 unfoldable pub atLast : List ℕ → Bool
-atLast bytes = eqb (pointer bytes + 1) (hopFields bytes)
+atLast bytes = eqb (pointer bytes + 1) (hopCount bytes)
 
 -- "the end holds the path so written in place of what it held, and the packet is gone"
 unfoldable pub holding : State → ℕ → Packet → List ℕ → State
@@ -134,8 +133,8 @@ arrived s i destination q =
 unfoldable pub step : State → Event → State
 step s (sending first) = sent s other (s .first-holds)
 step s (sending other) = sent s first (s .other-holds)
-step s (single-move i) = onPacket s (getElem? (s .packets) i) (λ q. onTheWay s (set (s .packets) i (moved q)))
-step s (walk i limit) = onPacket s (getElem? (s .packets) i) (λ q. onTheWay s (set (s .packets) i (walked limit q)))
+step s (single-move i) = onPacket s (getElem? (s .packets) i) (λ q. onTheWay s (set (s .packets) i (packetMoved q)))
+step s (walk i limit) = onPacket s (getElem? (s .packets) i) (λ q. onTheWay s (set (s .packets) i (packetWalked limit q)))
 step s (loss i) = onTheWay s (without i (s .packets))
 step s (doubling i) = onPacket s (getElem? (s .packets) i) (λ q. onTheWay s (s .packets ++ (q ∷ [])))
 step s (arrival i destination) = onPacket s (getElem? (s .packets) i) (arrived s i destination)
@@ -155,15 +154,15 @@ pub record Meeting : Type 0 where
 
 -- the info field of hop field j's segment
 unfoldable pub infoOf : List ℕ → ℕ → InfoField
-infoOf bytes j = infoFieldAt bytes (infoStart (segmentOf (headerOf bytes) j))
+infoOf bytes j = infoFieldAt bytes (infoStart (segmentOf (metaHeaderOf bytes) j))
 
 -- hop field j with an accumulator: its 12 bytes; "A hop field's entry interface is its construction ingress where its segment's
 -- direction is set, else its construction egress; its exit interface is the other."
 unfoldable pub meeting : List ℕ → ℕ → ℕ → Meeting
 meeting bytes j accumulator =
-    let field = hopFieldAt bytes (hopStart (headerOf bytes) j) in
+    let field = hopFieldAt bytes (hopStart (metaHeaderOf bytes) j) in
     record {
-      field = part (hopStart (headerOf bytes) j) 12 bytes;
+      field = part (hopStart (metaHeaderOf bytes) j) 12 bytes;
       accumulator = accumulator;
       entry = ingressInterface (infoOf bytes j) field;
       exit = egressInterface (infoOf bytes j) field;
@@ -178,13 +177,13 @@ met bytes = meeting bytes (pointer bytes) (infoOf bytes (pointer bytes) .accumul
 unfoldable pub accumulatorAfter : List ℕ → ℕ → ℕ → ℕ
 accumulatorAfter b k zero = infoFieldAt b (infoStart k) .accumulator
 accumulatorAfter b k (suc n) =
-    bitXor (accumulatorAfter b k n) (moves.changeInside b (headerOf b) k (firstHopField (headerOf b) k + n))
+    bitXor (accumulatorAfter b k n) (moves.changeInside b (metaHeaderOf b) k (firstHopField (metaHeaderOf b) k + n))
 
 -- "Hop field i of B has its accumulator by B alone … from its first hop field to i"
 unfoldable pub accumulatorBy : List ℕ → ℕ → ℕ
 accumulatorBy b i =
-    let k = segmentOf (headerOf b) i in
-    accumulatorAfter b k (i - firstHopField (headerOf b) k)
+    let k = segmentOf (metaHeaderOf b) i in
+    accumulatorAfter b k (i - firstHopField (metaHeaderOf b) k)
 
 -- hop field i by B alone
 unfoldable pub byPath : List ℕ → ℕ → Meeting
@@ -199,24 +198,24 @@ exchanged x = record { field = x .field; accumulator = x .accumulator; entry = x
 pub record Begun (b : List ℕ) : Type 0 where
   pub bytes : (i : ℕ) → getD b i 0 < 256
   pub read : standardOf 1 b .answer ≡ Accepted
-  pub exact : length b ≡ pathLength (headerOf b)
-  pub few : hopFields b ≤ 64
-  pub peering : rules.peeringAllowed b (headerOf b) ≡ true
-  pub unreserved : headerOf b .reserved ≡ 0
-  pub info-start : headerOf b .«current_info_field» ≡ 0
-  pub hop-start : headerOf b .«current_hop_field» ≡ 0
+  pub exact : length b ≡ pathLength (metaHeaderOf b)
+  pub few : hopCount b ≤ 64
+  pub peering : rules.peeringAllowed b (metaHeaderOf b) ≡ true
+  pub unreserved : metaHeaderOf b .reserved ≡ 0
+  pub info-start : metaHeaderOf b .«current_info_field» ≡ 0
+  pub hop-start : metaHeaderOf b .«current_hop_field» ≡ 0
 
 -- THE CLAIM
 
 -- "One from the first sender stands on B's hop field p, one from the other end on B's hop field N − 1 − p, its 12 bytes as in B. The
 -- accumulator met there is that hop field's by B; entry and exit interfaces are as in B outward, and exchanged on the way back."
 unfoldable pub meets : List ℕ → End → ℕ → Meeting
-meets b to p = byEnd to (exchanged (byPath b (hopFields b - 1 - p))) (byPath b p)
+meets b to p = byEnd to (exchanged (byPath b (hopCount b - 1 - p))) (byPath b p)
 
 pub record Stands (b : List ℕ) (q : Packet) : Type 0 where
   -- its bytes are a path that is read, with B's number of hop fields
   pub read : standardOf 1 (q .bytes) .answer ≡ Accepted
-  pub long : hopFields (q .bytes) ≡ hopFields b
+  pub long : hopCount (q .bytes) ≡ hopCount b
   -- "a packet's count is its hop pointer p"
   pub counted : q .count ≡ pointer (q .bytes)
   pub standing : met (q .bytes) ≡ meets b (q .to) (pointer (q .bytes))
@@ -228,7 +227,7 @@ All P (a ∷ l) = P a × All P l
 
 -- "B walked to N − 1 and turned": the calls one after the other, the turn into a destination of B's length
 unfoldable pub reply : List ℕ → List ℕ
-reply b = reverse.reversed 1 (moves.walked 1 b (hopFields b - 1)) (replicate (length b) 0)
+reply b = reverse.reversed 1 (moves.walked 1 b (hopCount b - 1)) (replicate (length b) 0)
 
 -- whether the other end has taken an arrival
 unfoldable pub reached : List Packet → Bool
@@ -239,9 +238,9 @@ pub record Claim (b : List ℕ) (s : State) : Type 0 where
   -- "After every list"
   pub standing : All (Stands b) (s .packets)
   -- "and after each move inside a walk (what the walk leaves with that many moves as its limit)"
-  pub walking : (limit : ℕ) → All (λ q. Stands b (walked limit q)) (s .packets)
+  pub walking : (limit : ℕ) → All (λ q. Stands b (packetWalked limit q)) (s .packets)
   -- "Each arrival taken had count N − 1."
-  pub counts : All (λ q. q .count + 1 ≡ hopFields b) (s .taken)
+  pub counts : All (λ q. q .count + 1 ≡ hopCount b) (s .taken)
   -- "The first sender holds B"
   pub first-end : s .first-holds ≡ some b
   -- "the other end holds nothing until it takes an arrival, and from then on B walked to N − 1 and turned"
@@ -256,7 +255,7 @@ RoundTrip = (b : List ℕ) → Begun b → (events : List Event) → Claim b (af
 -- the trip: out and back, into destinations that the ends lend
 abbrev pub trip : List ℕ → List ℕ → List ℕ → List Event
 trip b there back =
-    sending first ∷ walk 0 (hopFields b - 1) ∷ arrival 0 there ∷ sending other ∷ walk 0 (hopFields b - 1) ∷ arrival 0 back ∷ []
+    sending first ∷ walk 0 (hopCount b - 1) ∷ arrival 0 there ∷ sending other ∷ walk 0 (hopCount b - 1) ∷ arrival 0 back ∷ []
 
 -- what is met on the way of n hop fields, in order of travel; and the same in opposite order
 unfoldable pub along : (ℕ → Meeting) → ℕ → List Meeting

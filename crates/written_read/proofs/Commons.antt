@@ -11,7 +11,7 @@ use Rattle.wire_encoding.specs.BigEndian.{bigEndian, bytesOf}
 use Rattle.wire_encoding.proofs.Parts.{Bytes, bytesFrom, part-bytes}
 use Rattle.wire_encoding.proofs.Numbers.{below, bytes-read, read-bytesOf}
 use Rattle.path_error.specs.declared.Decoded.the-variants.{Accepted}
-use Rattle.common_header.specs.CommonHeader.{commonOf, readCommon, versionOf, factorOf}
+use Rattle.common_header.specs.CommonHeader.{commonAt, readCommon, versionOf, factorOf}
 use Rattle.common_header_encoding.specs.Encoding.{commonBytes}
 use Rattle.common_header.specs.declared.CommonHeader.{CommonHeader}
 use Rattle.common_header.specs.declared.CommonHeaderRead.{CommonHeaderRead}
@@ -30,7 +30,7 @@ pub record Fields (c : CommonHeader) : Type 0 where
 abbrev pub commonAccepted : CommonHeader → CommonHeaderRead
 commonAccepted c = record { answer = Accepted; header = c }
 
-common-accepted : (bytes : List ℕ) → versionOf bytes ≡ 0 → 12 ≤ length bytes → 9 ≤ factorOf bytes → readCommon bytes ≡ commonAccepted (commonOf bytes)
+common-accepted : (bytes : List ℕ) → versionOf bytes ≡ 0 → 12 ≤ length bytes → 9 ≤ factorOf bytes → readCommon bytes ≡ commonAccepted (commonAt bytes)
 unfolding readCommon
 common-accepted bytes version long factor =
     rw (ne-eqb (length bytes) 0 (λ e. omega arith), eq-eqb (versionOf bytes) 0 version, le-ltb (length bytes) 12 long, le-ltb (factorOf bytes) 9 factor)
@@ -59,8 +59,8 @@ module _ (c : CommonHeader) (after : List ℕ) (f : Fields c) where
       after
       ∙ mod-eq-of-lt (f .reserved)
 
-  fields-read : commonOf (commonBytes c ++ after) ≡ c
-  unfolding commonOf commonBytes bytesOf
+  fields-read : commonAt (commonBytes c ++ after) ≡ c
+  unfolding commonAt commonBytes bytesOf
   fields-read =
       let w : Widths c = f .widths in
       let version : first / 2 ^ 28 % 16 ≡ c .version = omega arith in
@@ -87,8 +87,8 @@ module _ (bytes : List ℕ) (b : Bytes bytes) where
   number : (width at : ℕ) → at + width ≤ length bytes → bytesOf width (bigEndian width bytes at) ≡ bytesFrom at width bytes
   number width at h = bytes-read width bytes b at h ∙ part-bytes width at bytes h
 
-  pub common-fields : Fields (commonOf bytes)
-  unfolding commonOf
+  pub common-fields : Fields (commonAt bytes)
+  unfolding commonAt
   common-fields =
       let kinds : getD bytes 9 0 < 256 = b 9 .fits in
       record {
@@ -98,8 +98,8 @@ module _ (bytes : List ℕ) (b : Bytes bytes) where
         reserved = below bytes b 10 2;
       }
 
-  pub common-written : 12 ≤ length bytes → commonBytes (commonOf bytes) ≡ take 12 bytes
-  unfolding commonBytes commonOf
+  pub common-written : 12 ≤ length bytes → commonBytes (commonAt bytes) ≡ take 12 bytes
+  unfolding commonBytes commonAt
   common-written long =
       let n : ℕ = bigEndian 4 bytes 0 in
       let k : ℕ = getD bytes 9 0 in

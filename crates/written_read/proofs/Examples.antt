@@ -118,7 +118,7 @@ unfolding bigEndian bytesOf numberAt room
     meta.lengthsValid meta.hopValid meta.infoValid meta.firstRefusal meta.checked meta.settled meta.metaRead meta.readMeta
     standard.complete standard.readPath
     dataplane.unread dataplane.standardRead dataplane.readDataplane
-    common.commonOf common.readCommon common.headerLength common.hostLength
+    common.commonAt common.readCommon common.headerLength common.hostLength
     address.kindOf address.hostOfKind address.padded address.hostAt address.lengthOfKinds address.addressLength address.addressAt address.readAddress
     common-encoding.fieldsFit common-encoding.commonFits common-encoding.commonBytes address-encoding.serviceBytes address-encoding.rawOf address-encoding.hostOnWire address-encoding.onWire
     address-encoding.wireHostBytes address-encoding.wireBytes address-encoding.addressBytes

@@ -115,7 +115,7 @@ found p =
 pub lost : (encoding short 3 39 ≡ Done) × (found (readPacket written) ≡ 0 ∷ 9 ∷ 36 ∷ 0 ∷ 36 ∷ 0 ∷ []) × (drop 36 written ≡ 7 ∷ 8 ∷ 9 ∷ [])
 unfolding bigEndian bytesOf
     dataplane.unread dataplane.readDataplane
-    common.commonOf common.readCommon common.headerLength common.hostLength
+    common.commonAt common.readCommon common.headerLength common.hostLength
     address.kindOf address.lengthOfKinds address.addressLength address.readAddress
     common-encode.fieldsFit common-encode.commonFits common-encode.commonBytes address-encode.rawOf address-encode.hostOnWire address-encode.onWire
     address-encode.wireHostBytes address-encode.wireBytes address-encode.addressBytes

@@ -15,7 +15,7 @@ use Rattle.path_error.specs.declared.DecodeError.{DecodeError}
 use Rattle.path_error.specs.declared.DecodeError.the-variants.{PacketEmptyOrTruncated, InconsistentPathLength}
 use Rattle.path.specs.Dataplane.{readDataplane}
 use Rattle.path.specs.declared.dataplane.DataplaneRead.{DataplaneRead}
-use Rattle.common_header.specs.CommonHeader.{commonOf, factorOf, readCommon}
+use Rattle.common_header.specs.CommonHeader.{commonAt, factorOf, readCommon}
 use Rattle.address_header.specs.AddressHeader.{addressAt, lengthOfKinds, readAddress}
 use Rattle.common_header.specs.declared.CommonHeader.{CommonHeader}
 use Rattle.address_header.specs.declared.AddressHeader.{AddressHeader}
@@ -94,7 +94,7 @@ module _ (n : ℕ) (c : CommonHeader) (a : AddressHeader) (start end : ℕ) (rea
 module _ (bytes : List ℕ) where
   -- the common header, where the headers end, what the address header sees, and how long it is
   abbrev pub header : CommonHeader
-  header = commonOf bytes
+  header = commonAt bytes
 
   abbrev pub ending : ℕ
   ending = headerEnd header (length bytes)

@@ -14,7 +14,7 @@ use Rattle.wire_encoding.specs.BigEndian.{part}
 use Rattle.wire_encoding.proofs.Parts.{Bytes, length-part, part-part, part-join, bytes-part}
 use Rattle.path.specs.Dataplane.{unread, readDataplane}
 use Rattle.path.specs.declared.dataplane.DataplaneRead.{DataplaneRead}
-use Rattle.common_header.specs.CommonHeader.{commonOf, hostLength}
+use Rattle.common_header.specs.CommonHeader.{commonAt, hostLength}
 use Rattle.address_header.specs.AddressHeader.{addressAt, lengthOfKinds}
 use Rattle.common_header_encoding.specs.Encoding.{fieldsFit, commonFits}
 use Rattle.address_header_encoding.specs.Encoding.{addressBytes}
@@ -96,7 +96,7 @@ module _ (bytes : List ℕ) (b : Bytes bytes) (s : Split bytes) where
   again = headersOf (packetAccepted (header bytes) (addresses bytes) start end (pathRead bytes))
 
   end-inside : (12 ≤ end) × (end ≤ length bytes)
-  unfolding commonOf
+  unfolding commonAt
   end-inside = header-end-inside bytes (header bytes) (record { enough = s .long; factor = s .factor })
 
   start-inside : start ≤ end
@@ -127,7 +127,7 @@ module _ (bytes : List ℕ) (b : Bytes bytes) (s : Split bytes) where
       omega (arith, address-length-read (seen bytes) dk sk, path-length, start-inside)
 
   accepted-again : encoding again (length path) end ≡ Done
-  unfolding headersOf commonOf
+  unfolding headersOf commonAt
   accepted-again =
       let fields = common-fields bytes b in
       encodes again (length path) end (rw common-again (fields .widths)) (omega (arith, s .factor)) (omega (arith, b 5 .fits)) (omega (arith, fields .payload)) size-again

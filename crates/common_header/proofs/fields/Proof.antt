@@ -3,7 +3,7 @@ use native.Mathlib.Omega.{arith}
 -- `fields` meets its contract: the bytes are there, so each number is the one that they spell.
 use native.Mathlib.Omega.{arith}
 use Rattle.wire_encoding.proofs.Numbers.{or-zero-is}
-use Rattle.common_header.specs.CommonHeader.{commonOf}
+use Rattle.common_header.specs.CommonHeader.{commonAt}
 use borrow.Author.Needs.{needs}
 use Rattle.common_header.proofs.fields.Statement.{statement}
 use Rattle.common_header.proofs.fields.Tie as tie
@@ -36,7 +36,7 @@ shared-slice-read-t19 : tie.Need-shared-slice-read-t19
 shared-slice-read-t19 c = search needs
 
 returns : tie.Need-returns
-unfolding commonOf
+unfolding commonAt
 returns c =
     let s = c .before .before .before .before in
     let bytes = s .before .before .before .before .args .bytes .now in

@@ -4,7 +4,7 @@ use Prim.Native.Nat.{_+_}
 use lib.ListN.{length, length-set}
 use Rattle.wire_encoding.proofs.Numbers.{or-zero-is}
 use Rattle.wire_encoding.proofs.Writes.{length-placed}
-use Rattle.path.specs.Segment.{infoStart}
+use Rattle.path_meta_header.specs.MetaHeader.{infoStart}
 use borrow.Author.Needs.{needs}
 use native.Mathlib.Omega.{arith}
 use Rattle.moves.proofs.Laws.{applied-placed}
