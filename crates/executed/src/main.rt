@@ -1,5 +1,6 @@
 // Executes the calls on standard input, one to a line, and prints each line, then ` => ` and its answer.
-// An empty line and one that begins with `#` are copied. The comment of a call's function says its words.
+// An empty line and one that begins with `#` are copied. The comment of a call's function, or of its arm in calls.rt, says its words.
+mod calls;
 mod fields;
 mod meta_headers;
 mod packets;
@@ -23,38 +24,12 @@ fn is_call(line: &[u8]) -> bool {
     line[0] != b'#'
 }
 
-// Prints the answer to a call, or `?` where the line is none.
-fn answer(line: &[u8]) {
-    if paths::answer(line) {
-        return;
-    }
-    if packets::answer(line) {
-        return;
-    }
-    if travel::answer(line) {
-        return;
-    }
-    if runs::answer(line) {
-        return;
-    }
-    if meta_headers::answer(line) {
-        return;
-    }
-    if fields::answer(line) {
-        return;
-    }
-    if values::answer(line) {
-        return;
-    }
-    io::write_all(STDOUT_FILENO, b" ?");
-}
-
 // Prints a line, with its answer where it is a call.
 fn execute(line: &[u8]) {
     io::write_all(STDOUT_FILENO, line);
     if is_call(line) {
         io::write_all(STDOUT_FILENO, b" =>");
-        answer(line);
+        calls::answer(line);
     }
     io::write_all(STDOUT_FILENO, b"\n");
 }
@@ -63,7 +38,7 @@ fn execute(line: &[u8]) {
 fn execute_all(text: &[u8]) {
     let mut start: usize = 0;
     while start < text.len() {
-        let end = words::find(text, start, b'\n');
+        let end = bytes::scan::find(text, start, text.len(), b'\n');
         execute(&text[start..end]);
         start = end + 1;
     }

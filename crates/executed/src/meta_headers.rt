@@ -7,15 +7,20 @@ use path_meta_header::HopFieldOf;
 use path_meta_header::Offset;
 use path_meta_header::PathMetaHeader;
 
-// The pointers, the reserved bits and the three lengths.
-pub fn record(meta_header: PathMetaHeader) {
+// The three lengths.
+fn lengths(meta_header: PathMetaHeader) {
     let lengths = meta_header.segment_lengths;
-    print::byte(meta_header.current_info_field);
-    print::byte(meta_header.current_hop_field);
-    print::byte(meta_header.reserved);
     print::byte(lengths[0]);
     print::byte(lengths[1]);
     print::byte(lengths[2]);
+}
+
+// The pointers, the reserved bits and the three lengths.
+pub fn record(meta_header: PathMetaHeader) {
+    print::byte(meta_header.current_info_field);
+    print::byte(meta_header.current_hop_field);
+    print::byte(meta_header.reserved);
+    lengths(meta_header);
 }
 
 // The header of the six bytes in words 1 to 6.
@@ -45,14 +50,11 @@ fn lengths_at(line: &[u8]) -> PathMetaHeader {
 }
 
 // `meta B`: the header that begins the bytes.
-fn meta(line: &[u8]) {
-    let mut room = words::room();
-    let length = words::bytes_at(line, 1, &mut room);
-    let read = PathMetaHeader::decode(&room[..length]);
+pub fn meta(bytes: &[u8]) {
+    let read = PathMetaHeader::decode(bytes);
     let answer = read.answer;
-    let meta_header = read.meta_header;
     print::decoded(answer);
-    record(meta_header);
+    record(read.meta_header);
 }
 
 // The number of `meta`'s answer for a first byte and the three after it.
@@ -65,45 +67,23 @@ fn first(first: u8, bytes: &[u8]) {
     print::decoded_number(answer);
 }
 
-// The numbers for every first byte, from 0 on.
-fn each_first(bytes: &[u8]) {
+// `firsts B`: the number of `meta`'s answer for every byte in the place of B's first of 4, from 0 on.
+pub fn firsts(bytes: &[u8]) {
     for byte in 0usize..256 {
         first(byte as u8, bytes);
     }
 }
 
-// `firsts B`: the number of `meta`'s answer for every byte in the place of B's first of 4.
-fn firsts(line: &[u8]) {
-    let mut room = words::room();
-    let length = words::bytes_at(line, 1, &mut room);
-    each_first(&room[..length]);
-}
-
 // A header as one number after 0, or 10.
 fn word(word: Word) {
     match word {
-        Word::Value(number) => {
-            print::number(0);
-            print::number(number as u64);
-        }
-        Word::TooWide => {
-            print::number(10);
-            print::number(0);
-        }
+        Word::Value(number) => print::two(0, number as u64),
+        Word::TooWide => print::two(10, 0),
     }
 }
 
-// The lengths of the reversed header.
-fn reversed(meta_header: PathMetaHeader) {
-    let reversed = meta_header_reversal::to_reversed(meta_header);
-    let lengths = reversed.segment_lengths;
-    print::byte(lengths[0]);
-    print::byte(lengths[1]);
-    print::byte(lengths[2]);
-}
-
 // `counts C H R a b c`: what a header of these fields counts, its word and its reversed lengths.
-fn counts(line: &[u8]) {
+pub fn counts(line: &[u8]) {
     let meta_header = record_at(line);
     print::number(meta_header.info_fields_count() as u64);
     print::number(meta_header.hop_fields_count() as u64);
@@ -111,95 +91,39 @@ fn counts(line: &[u8]) {
     print::number(meta_header.encoded_path_length() as u64);
     print::number(meta_header.computed_info_field_index() as u64);
     word(meta_header_encoding::as_u32(meta_header));
-    reversed(meta_header);
+    lengths(meta_header_reversal::to_reversed(meta_header));
 }
 
-// Document 01's number of a header's writing.
-fn encoded(answer: Encoded) {
-    match answer {
+// `encode C H R a b c B`: a header written to a destination that holds B.
+pub fn encode(line: &[u8], dst: &mut [u8]) {
+    match meta_header_encoding::encode_to(record_at(line), dst) {
         Encoded::Done => print::number(0),
         Encoded::TooWide => print::number(10),
         Encoded::InadequateBufferSize => print::number(9),
     }
 }
 
-// `encode C H R a b c B`: a header written to a destination that holds B.
-fn encode(line: &[u8]) {
-    let meta_header = record_at(line);
-    let mut room = words::room();
-    let length = words::bytes_at(line, 7, &mut room);
-    let dst = &mut room[..length];
-    encoded(meta_header_encoding::encode_to(meta_header, dst));
-    print::bytes(dst);
-}
-
 // `ifhop a b c i`: the hop field of interface i.
-fn ifhop(line: &[u8]) {
+pub fn ifhop(line: &[u8]) {
     let meta_header = lengths_at(line);
     match meta_header.hop_field_index_for_interface(words::index_at(line, 4)) {
-        HopFieldOf::Index(index) => {
-            print::number(0);
-            print::number(index as u64);
-        }
-        HopFieldOf::NoSuchInterface => {
-            print::number(8);
-            print::number(0);
-        }
+        HopFieldOf::Index(index) => print::two(0, index as u64),
+        HopFieldOf::NoSuchInterface => print::two(8, 0),
     }
 }
 
 // Where a field starts after 0, or 8.
 fn start(offset: Offset) {
     match offset {
-        Offset::At(at) => {
-            print::number(0);
-            print::number(at as u64);
-        }
-        Offset::NoSuchField => {
-            print::number(8);
-            print::number(0);
-        }
+        Offset::At(at) => print::two(0, at as u64),
+        Offset::NoSuchField => print::two(8, 0),
     }
 }
 
 // `offset a b c i`: where info field i starts, and hop field i.
-fn offset(line: &[u8]) {
+pub fn offset(line: &[u8]) {
     let meta_header = lengths_at(line);
     let index = words::index_at(line, 4);
     start(meta_header.info_field_offset(index));
     start(meta_header.hop_field_offset(index));
-}
-
-// Answers a call of this file; whether the line is one.
-pub fn answer(line: &[u8]) -> bool {
-    match words::call_of(
-        line,
-        b"meta s firsts s counts bbbbbb encode bbbbbbs ifhop bbbn offset bbbn",
-    ) {
-        1 => {
-            meta(line);
-            true
-        }
-        2 => {
-            firsts(line);
-            true
-        }
-        3 => {
-            counts(line);
-            true
-        }
-        4 => {
-            encode(line);
-            true
-        }
-        5 => {
-            ifhop(line);
-            true
-        }
-        6 => {
-            offset(line);
-            true
-        }
-        _ => false,
-    }
 }

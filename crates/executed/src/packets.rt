@@ -15,7 +15,7 @@ use packet::raw::ScionPacketRaw;
 ghost use Prim.Native.Nat.{_<_};
 
 // Document 01's number of an answer to writing.
-fn encoded(encoded: Encoded) {
+pub fn encoded(encoded: Encoded) {
     match encoded {
         Encoded::Done => print::number(0),
         Encoded::Refused(error) => print::byte(error.number()),
@@ -59,33 +59,26 @@ fn host(address: HostAddress) {
 
 // The networks and the hosts, each destination first.
 fn address_record(header: AddressHeader) {
-    let to = header.destination_ia;
-    let from = header.source_ia;
-    let destination = header.destination;
-    let source = header.source;
-    print::number(to.to_u64());
-    print::number(from.to_u64());
-    host(destination);
-    host(source);
+    print::number(header.destination_ia.to_u64());
+    print::number(header.source_ia.to_u64());
+    host(header.destination);
+    host(header.source);
 }
 
 // `common B`: the common header that begins the bytes, and the lengths of all headers, of those after it, and of the payload.
-fn common(line: &[u8]) {
-    let mut room = words::room();
-    let length = words::bytes_at(line, 1, &mut room);
-    let read = CommonHeader::decode(&room[..length]);
+pub fn common(bytes: &[u8]) {
+    let read = CommonHeader::decode(bytes);
     let answer = read.answer;
-    let header = read.header;
     print::decoded(answer);
-    common_record(header);
-    print::number(header.header_length() as u64);
-    print::number(header.remaining_header_length() as u64);
-    print::number(header.payload_size() as u64);
+    common_record(read.header);
+    print::number(read.header.header_length() as u64);
+    print::number(read.header.remaining_header_length() as u64);
+    print::number(read.header.payload_size() as u64);
 }
 
 // `address D S B`: the address header that begins the bytes, of hosts of kinds D and S; its length; whether each host has a name.
-fn address(line: &[u8]) {
-    let mut room = words::room();
+pub fn address(line: &[u8]) {
+    let mut room = [0u8; words::MOST_BYTES];
     let length = words::bytes_at(line, 3, &mut room);
     let read = AddressHeader::decode_with_context(
         &room[..length],
@@ -93,83 +86,49 @@ fn address(line: &[u8]) {
         words::u8_at(line, 2),
     );
     let answer = read.answer;
-    let header = read.header;
     print::decoded(answer);
-    address_record(header);
+    address_record(read.header);
     print::number(read.length as u64);
-    let destination = header.destination();
-    let source = header.source();
-    print::flag(destination.known);
-    print::flag(source.known);
+    print::flag(read.header.destination().known);
+    print::flag(read.header.source().known);
 }
 
 // `packet B`: the packet that begins the bytes, where its path and its payload lie, and their bytes.
-fn packet(line: &[u8]) {
-    let mut room = words::room();
-    let length = words::bytes_at(line, 1, &mut room);
-    let bytes = &room[..length];
+pub fn packet(bytes: &[u8]) {
     let packet = ScionPacketRaw::decode(bytes);
     let answer = packet.answer;
-    let common = packet.common;
-    let address = packet.address;
-    let path = packet.path;
-    let meta_header = path.meta_header;
-    let path_part = packet.path_part;
-    let payload_part = packet.payload_part;
     print::decoded(answer);
-    common_record(common);
-    address_record(address);
-    meta_headers::record(meta_header);
-    print::number(path_part.start as u64);
+    common_record(packet.common);
+    address_record(packet.address);
+    meta_headers::record(packet.path.meta_header);
+    print::number(packet.path_part.start as u64);
     print::bytes(ScionPacketRaw::path(bytes));
-    print::number(payload_part.start as u64);
+    print::number(packet.payload_part.start as u64);
     print::bytes(ScionPacketRaw::payload(bytes));
 }
 
 // A host of a kind: IPv4, IPv6, a service, or a kind without a name.
 fn host_of(kind: u8, service: u16) -> MaybeEncoded {
-    if kind == 0 {
-        return MaybeEncoded::Decoded(HostAddr::V4);
+    match kind {
+        0 => MaybeEncoded::Decoded(HostAddr::V4),
+        3 => MaybeEncoded::Decoded(HostAddr::V6),
+        4 => MaybeEncoded::Decoded(HostAddr::Svc(ServiceAddr(service))),
+        _ => MaybeEncoded::Encoded(kind),
     }
-    if kind == 3 {
-        return MaybeEncoded::Decoded(HostAddr::V6);
-    }
-    if kind == 4 {
-        return MaybeEncoded::Decoded(HostAddr::Svc(ServiceAddr(service)));
-    }
-    MaybeEncoded::Encoded(kind)
 }
 
 // The host of the three words from word `k` on.
 fn host_at(line: &[u8], k: usize) -> HostAddress
     requires { ⌜ k < 100 ⌝ }
 {
-    let mut room = words::room();
-    words::bytes_at(line, k + 2, &mut room);
-    let bytes = [
-        room[0],
-        room[1],
-        room[2],
-        room[3],
-        room[4],
-        room[5],
-        room[6],
-        room[7],
-        room[8],
-        room[9],
-        room[10],
-        room[11],
-        room[12],
-        room[13],
-        room[14],
-        room[15],
-    ];
+    let mut bytes = [0u8; 16];
+    words::bytes_at(line, k + 2, &mut bytes);
     let host = host_of(words::u8_at(line, k), words::u16_at(line, k + 1));
     HostAddress { host, bytes }
 }
 
 // The address header of the eight words from word `k` on: both networks, then both hosts.
-fn address_at(line: &[u8], k: usize) -> AddressHeader
+pub fn address_at(line: &[u8], k: usize) -> AddressHeader
     requires { ⌜ k < 50 ⌝ }
 {
     let destination = host_at(line, k + 2);
@@ -182,20 +141,10 @@ fn address_at(line: &[u8], k: usize) -> AddressHeader
     }
 }
 
-// Writes headers and a path to a destination; prints the answer and what the destination then holds.
-fn encode(headers: ScionHeaders, path: &[u8], dst: &mut [u8]) {
-    encoded(headers.encode_to(path, dst));
-    print::bytes(dst);
-}
-
 // `write version class flow next factor payload type reserved` and the eight words of an address header, then `P D`: the headers and
 // the path P written to a destination that holds D, after the length that they ask for.
-fn write(line: &[u8]) {
+pub fn write(line: &[u8], path: &[u8], dst: &mut [u8]) {
     let address = address_at(line, 9);
-    let mut room = words::room();
-    let length = words::bytes_at(line, 17, &mut room);
-    let mut dst_room = words::room();
-    let dst_length = words::bytes_at(line, 18, &mut dst_room);
     let headers = ScionHeaders {
         version: words::u8_at(line, 1),
         traffic_class: words::u8_at(line, 2),
@@ -207,34 +156,27 @@ fn write(line: &[u8]) {
         reserved: words::u16_at(line, 8),
         address,
     };
-    print::number(headers.encoded_length(length) as u64);
-    encode(headers, &room[..length], &mut dst_room[..dst_length]);
+    print::number(headers.encoded_length(path.len()) as u64);
+    encoded(headers.encode_to(path, dst));
 }
 
 // `new next payload flow type` and the eight words of an address header, then `P D`: the factor of headers made for the path P, and the
 // headers and the path written to a destination that holds D.
-fn new(line: &[u8]) {
-    let address = address_at(line, 5);
-    let mut room = words::room();
-    let length = words::bytes_at(line, 13, &mut room);
-    let mut dst_room = words::room();
-    let dst_length = words::bytes_at(line, 14, &mut dst_room);
+pub fn new(line: &[u8], path: &[u8], dst: &mut [u8]) {
     let headers = ScionHeaders::new(
-        address,
+        address_at(line, 5),
         words::u8_at(line, 4),
-        length,
+        path.len(),
         words::u8_at(line, 1),
         words::index_at(line, 2),
         words::u32_at(line, 3),
     );
     print::number(headers.header_length_factor as u64);
-    encode(headers, &room[..length], &mut dst_room[..dst_length]);
+    encoded(headers.encode_to(path, dst));
 }
 
 // `putcommon version class flow next factor payload type destination source reserved D`: a common header written alone.
-fn put_common(line: &[u8]) {
-    let mut room = words::room();
-    let length = words::bytes_at(line, 11, &mut room);
+pub fn put_common(line: &[u8], dst: &mut [u8]) {
     let header = CommonHeader {
         version: words::u8_at(line, 1),
         traffic_class: words::u8_at(line, 2),
@@ -247,55 +189,5 @@ fn put_common(line: &[u8]) {
         source_kind: words::u8_at(line, 9),
         reserved: words::u16_at(line, 10),
     };
-    let dst = &mut room[..length];
     encoded(common_header_encoding::encode_to(header, dst));
-    print::bytes(dst);
-}
-
-// `putaddress`, the eight words of an address header, and D: an address header written alone.
-fn put_address(line: &[u8]) {
-    let header = address_at(line, 1);
-    let mut room = words::room();
-    let length = words::bytes_at(line, 9, &mut room);
-    let dst = &mut room[..length];
-    encoded(address_header_encoding::encode_to(header, dst));
-    print::bytes(dst);
-}
-
-// Answers a call of this file; whether the line is one.
-pub fn answer(line: &[u8]) -> bool {
-    match words::call_of(
-        line,
-        b"packet s common s address bbs write bbwbnnbhnnbhsbhsss new bnwbnnbhsbhsss putcommon bbwbbhbbbhs putaddress nnbhsbhss",
-    ) {
-        1 => {
-            packet(line);
-            true
-        }
-        2 => {
-            common(line);
-            true
-        }
-        3 => {
-            address(line);
-            true
-        }
-        4 => {
-            write(line);
-            true
-        }
-        5 => {
-            new(line);
-            true
-        }
-        6 => {
-            put_common(line);
-            true
-        }
-        7 => {
-            put_address(line);
-            true
-        }
-        _ => false,
-    }
 }

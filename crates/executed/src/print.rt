@@ -3,16 +3,22 @@ use libc::STDOUT_FILENO;
 use path_error::Answer;
 use path_error::Decoded;
 use path_fields::Interface;
-ghost use Prim.Native.Nat.{_<_};
+
+// That a line is no call.
+pub fn unknown() {
+    io::write_all(STDOUT_FILENO, b" ?");
+}
 
 // A number in decimal.
 pub fn number(number: u64) {
-    if number < 10 {
-        io::write_all(STDOUT_FILENO, &[b' ', b'0' + number as u8]);
-        return;
-    }
     io::write_all(STDOUT_FILENO, b" ");
     io::print_decimal(STDOUT_FILENO, number);
+}
+
+// Two numbers.
+pub fn two(first: u64, second: u64) {
+    number(first);
+    number(second);
 }
 
 // A byte as a number.
@@ -47,27 +53,11 @@ pub fn signed(number: i64) {
     io::print_decimal(STDOUT_FILENO, distance(number));
 }
 
-// The hexadecimal digit of a number below 16.
-fn glyph(digit: u8) -> u8
-    requires { ⌜ digit < 16 ⌝ }
-{
-    if digit < 10 {
-        b'0' + digit
-    } else {
-        b'a' + (digit - 10)
-    }
-}
-
-// The two hexadecimal digits of a byte.
-fn pair(byte: u8) {
-    io::write_all(STDOUT_FILENO, &[glyph(byte / 16), glyph(byte % 16)]);
-}
-
 // The two digits of each byte.
 fn pairs(bytes: &[u8]) {
     let mut i: usize = 0;
     while i < bytes.len() {
-        pair(bytes[i]);
+        io::print_hex(STDOUT_FILENO, bytes[i] as u64, 2);
         i += 1;
     }
 }
@@ -84,10 +74,7 @@ pub fn bytes(bytes: &[u8]) {
 // Document 01's number and value of an answer to a call on a path.
 pub fn answer(answer: Answer) {
     match answer {
-        Answer::Accepted => {
-            number(0);
-            number(0);
-        }
+        Answer::Accepted => two(0, 0),
         Answer::Refused(error) => {
             byte(error.number());
             byte(error.value());
@@ -106,10 +93,7 @@ pub fn answer_number(answer: Answer) {
 // Document 01's number and value of a reading.
 pub fn decoded(decoded: Decoded) {
     match decoded {
-        Decoded::Accepted => {
-            number(0);
-            number(0);
-        }
+        Decoded::Accepted => two(0, 0),
         Decoded::Refused(error) => {
             byte(error.number());
             byte(error.value());

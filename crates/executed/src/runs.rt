@@ -1,6 +1,5 @@
 // Calls on runs of hop fields.
 use crate::print;
-use crate::words;
 use hop_fields::run;
 use hop_fields::view::read_ends;
 use path::dataplane::DataplanePath;
@@ -17,10 +16,7 @@ fn hop_field(field: HopField) {
 }
 
 // `ends B`: whether B is a run, how many hop fields it has, the one read at the front, then the one read at the back, and how many are left.
-fn ends(line: &[u8]) {
-    let mut room = words::room();
-    let length = words::bytes_at(line, 1, &mut room);
-    let bytes = &room[..length];
+pub fn ends(bytes: &[u8]) {
     print::answer(run::check(bytes));
     print::number(run::count(run::whole(bytes)) as u64);
     let ends = read_ends(bytes);
@@ -30,58 +26,26 @@ fn ends(line: &[u8]) {
 }
 
 // `parts B`: the hop field at the front of a run, the run without it, the hop field at its back, and the run without that.
-fn parts(line: &[u8]) {
-    let mut room = words::room();
-    let length = words::bytes_at(line, 1, &mut room);
-    let bytes = run::whole(&room[..length]);
-    print::bytes(run::first(bytes));
-    print::bytes(run::after_first(bytes));
-    print::bytes(run::last(bytes));
-    print::bytes(run::before_last(bytes));
+pub fn parts(bytes: &[u8]) {
+    let whole = run::whole(bytes);
+    print::bytes(run::first(whole));
+    print::bytes(run::after_first(whole));
+    print::bytes(run::last(whole));
+    print::bytes(run::before_last(whole));
 }
 
 // `hops T B`: whether the path has hop fields, how many, and their bytes.
-fn hops(line: &[u8]) {
-    let mut room = words::room();
-    let length = words::bytes_at(line, 2, &mut room);
-    let bytes = &room[..length];
-    let path_type = words::u8_at(line, 1);
-    let answer = path_hop_fields::locate(DataplanePath::new(path_type), bytes).answer;
+pub fn hops(path: DataplanePath, bytes: &[u8]) {
+    let answer = path_hop_fields::locate(path, bytes).answer;
     print::answer(answer);
-    let hop_fields = path_hop_fields::hop_fields(DataplanePath::new(path_type), bytes);
+    let hop_fields = path_hop_fields::hop_fields(path, bytes);
     print::number(run::count(hop_fields) as u64);
     print::bytes(hop_fields);
 }
 
 // `seghops T B i`: how many hop fields segment i has, and their bytes.
-fn seghops(line: &[u8]) {
-    let mut room = words::room();
-    let length = words::bytes_at(line, 2, &mut room);
-    let path = DataplanePath::new(words::u8_at(line, 1));
-    let hop_fields = path.segment_hop_fields(&room[..length], words::index_at(line, 3));
+pub fn seghops(path: DataplanePath, bytes: &[u8], index: usize) {
+    let hop_fields = path.segment_hop_fields(bytes, index);
     print::number(run::count(hop_fields) as u64);
     print::bytes(hop_fields);
-}
-
-// Answers a call of this file; whether the line is one.
-pub fn answer(line: &[u8]) -> bool {
-    match words::call_of(line, b"ends s parts s hops bs seghops bsn") {
-        1 => {
-            ends(line);
-            true
-        }
-        2 => {
-            parts(line);
-            true
-        }
-        3 => {
-            hops(line);
-            true
-        }
-        4 => {
-            seghops(line);
-            true
-        }
-        _ => false,
-    }
 }

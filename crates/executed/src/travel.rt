@@ -1,57 +1,31 @@
-// Calls that reverse and move paths: word 1 is the type, word 2 the bytes.
+// Calls that change paths: word 1 is the type, word 2 the bytes.
 use crate::print;
 use crate::words;
+use path::dataplane::DataplanePath;
+use path::dataplane::PathAnswer;
 
-// `turn T B D`: the path reversed into a destination that holds D.
-fn turn(line: &[u8]) {
-    let mut room = words::room();
-    let length = words::bytes_at(line, 2, &mut room);
-    let mut dst_room = words::room();
-    let dst_length = words::bytes_at(line, 3, &mut dst_room);
-    let dst = &mut dst_room[..dst_length];
-    let answer = reverse::reverse_to_slice(words::u8_at(line, 1), &room[..length], dst).answer;
+// Whether a call was carried out.
+pub fn done(path: PathAnswer) {
+    let answer = path.answer;
     print::answer(answer);
-    print::bytes(dst);
 }
 
-// `move T B`: the bytes after a single move.
-fn single_move(line: &[u8]) {
-    let mut room = words::room();
-    let length = words::bytes_at(line, 2, &mut room);
-    let bytes = &mut room[..length];
-    let answer = moves::single_move(words::u8_at(line, 1), bytes).answer;
-    print::answer(answer);
-    print::bytes(bytes);
+// `alert T B i k n`: the bytes with the ingress (k 1) or egress (k 0) alert flag of hop field i set to n.
+pub fn alert(line: &[u8], bytes: &mut [u8], index: usize) {
+    let path = DataplanePath::new(words::u8_at(line, 1));
+    let enable = words::flag_at(line, 5);
+    if words::flag_at(line, 4) {
+        done(path_interfaces::set_cons_ingress_router_alert(path, bytes, index, enable));
+    } else {
+        done(path_interfaces::set_cons_egress_router_alert(path, bytes, index, enable));
+    }
 }
 
 // `walk T B limit`: how many moves a walk made, whether it stands at the last hop field, and the bytes after it.
-fn walk(line: &[u8]) {
-    let mut room = words::room();
-    let length = words::bytes_at(line, 2, &mut room);
-    let bytes = &mut room[..length];
-    let walked = moves::walk(words::u8_at(line, 1), bytes, words::index_at(line, 3));
+pub fn walk(line: &[u8], bytes: &mut [u8], limit: usize) {
+    let walked = moves::walk(words::u8_at(line, 1), bytes, limit);
     let answer = walked.answer;
     print::answer(answer);
     print::number(walked.moves as u64);
     print::flag(walked.arrived);
-    print::bytes(bytes);
-}
-
-// Answers a call of this file; whether the line is one.
-pub fn answer(line: &[u8]) -> bool {
-    match words::call_of(line, b"turn bss move bs walk bsn") {
-        1 => {
-            turn(line);
-            true
-        }
-        2 => {
-            single_move(line);
-            true
-        }
-        3 => {
-            walk(line);
-            true
-        }
-        _ => false,
-    }
 }

@@ -1,6 +1,7 @@
 // The words of a line, which single spaces part: numbers in decimal, and byte strings.
 // A byte string is `-` where it is empty, else pairs of hexadecimal digits; `+N` after them adds N zero bytes.
-ghost use mathlib.Core.Path.{_≡_};
+use bytes::scan::find;
+use check::same;
 ghost use Prim.Native.Nat.{_≤_, _<_};
 ghost use lib.ListN.{length};
 ghost use Rattle.io.specs.Counts.{Counts};
@@ -14,13 +15,6 @@ enum Parsed {
     Malformed,
 }
 
-// Room for a byte string, all zero.
-pub fn room() -> [u8; 2400]
-    ensures { λ r. ⌜ 2400 ≡ length r ⌝ }
-{
-    [0; 2400]
-}
-
 // The lesser of two numbers.
 fn lesser(a: usize, b: usize) -> usize
     ensures { λ r. ⌜ (r ≤ a) × (r ≤ b) ⌝ }
@@ -28,40 +22,17 @@ fn lesser(a: usize, b: usize) -> usize
     if a < b { a } else { b }
 }
 
-// Whether two words are the same.
-fn same(a: &[u8], b: &[u8]) -> bool {
-    if a.len() != b.len() {
-        return false;
-    }
-    begins(a, b)
-}
-
-// Whether `line` begins with `word`.
-fn begins(line: &[u8], word: &[u8]) -> bool {
-    if line.len() < word.len() {
-        return false;
-    }
-    let mut i: usize = 0;
-    while i < word.len() {
-        if line[i] != word[i] {
-            return false;
-        }
-        i += 1;
-    }
-    true
-}
-
-// Where word `k` starts; a line's end where there is no such word.
-fn word_start(line: &[u8], k: usize) -> usize
-    ensures { λ r. ⌜ r ≤ length (now (line .entry)) ⌝ }
+// Where part `k` of a text starts, whose parts a separator ends; the text's end where there is no such part.
+fn part_start(text: &[u8], k: usize, separator: u8) -> usize
+    ensures { λ r. ⌜ r ≤ length (now (text .entry)) ⌝ }
 {
     let mut left = k;
     let mut i: usize = 0;
-    while i < line.len() {
+    while i < text.len() {
         if left == 0 {
             return i;
         }
-        if line[i] == b' ' {
+        if text[i] == separator {
             left -= 1;
         }
         i += 1;
@@ -69,48 +40,31 @@ fn word_start(line: &[u8], k: usize) -> usize
     i
 }
 
-// The first index from `start` on at which `byte` stands, else the end.
-pub fn find(text: &[u8], start: usize, byte: u8) -> usize
-    requires { ⌜ start ≤ length (now text) ⌝ }
-    ensures { λ r. ⌜ (start ≤ r) × (r ≤ length (now (text .entry))) ⌝ }
-{
-    let mut i = start;
-    while i < text.len() {
-        if text[i] == byte {
-            return i;
-        }
-        i += 1;
-    }
-    i
+// Part `k` of a text, counted from 0; empty where there is no such part.
+fn part(text: &[u8], k: usize, separator: u8) -> &[u8] {
+    let start = part_start(text, k, separator);
+    let end = find(text, start, text.len(), separator);
+    &text[start..end]
 }
 
 // Word `k` of a line, counted from 0; empty where there is no such word.
 fn word(line: &[u8], k: usize) -> &[u8] {
-    let start = word_start(line, k);
-    let end = find(line, start, b' ');
-    &line[start..end]
+    part(line, k, b' ')
 }
 
-// Whether a byte is a hexadecimal digit.
-fn is_digit(glyph: u8) -> bool {
-    match glyph {
-        b'0'..=b'9' => true,
-        b'a'..=b'f' => true,
-        b'A'..=b'F' => true,
-        _ => false,
-    }
-}
-
-// The value of a hexadecimal digit.
-fn digit(glyph: u8) -> u8
-    ensures { λ r. ⌜ r < 16 ⌝ }
-{
+// The value of a hexadecimal digit, 16 for any other byte.
+fn digit(glyph: u8) -> u8 {
     match glyph {
         b'0'..=b'9' => glyph - b'0',
         b'a'..=b'f' => glyph - b'a' + 10,
         b'A'..=b'F' => glyph - b'A' + 10,
-        _ => 0,
+        _ => 16,
     }
+}
+
+// The byte that two hexadecimal digits spell.
+fn pair(high: u8, low: u8) -> u8 {
+    digit(high) % 16 * 16 + digit(low) % 16
 }
 
 // How many hexadecimal digits begin a word.
@@ -119,7 +73,7 @@ fn digits(word: &[u8]) -> usize
 {
     let mut i: usize = 0;
     while i < word.len() {
-        if !is_digit(word[i]) {
+        if digit(word[i]) == 16 {
             return i;
         }
         i += 1;
@@ -131,13 +85,10 @@ fn digits(word: &[u8]) -> usize
 fn with_digit(number: Parsed, glyph: u8) -> Parsed {
     match number {
         Parsed::Value(value) => {
-            if glyph < b'0' {
+            let last = digit(glyph) as u64;
+            if 9 < last {
                 return Parsed::Malformed;
             }
-            if b'9' < glyph {
-                return Parsed::Malformed;
-            }
-            let last = (glyph - b'0') as u64;
             if (u64::MAX - last) / 10 < value {
                 return Parsed::Malformed;
             }
@@ -177,11 +128,11 @@ fn number(word: &[u8]) -> u64 {
     }
 }
 
-// Whether pairs of digits, and a number of zero bytes after them, make a byte string.
+// Whether a word is `-`, or pairs of digits and mostly a number of zero bytes after them.
 fn is_bytes(word: &[u8]) -> bool {
     let digits = digits(word);
     if digits == 0 {
-        return false;
+        return is_byte(word, b'-');
     }
     if digits % 2 == 1 {
         return false;
@@ -198,15 +149,21 @@ fn is_bytes(word: &[u8]) -> bool {
     is_number(&word[digits + 1..], (MOST_BYTES - digits / 2) as u64)
 }
 
-// Whether a word is of a kind: `s` a byte string, `f` a flag; `b`, `h`, `w` and `n` a number of 8, 16, 32 and 64 bits.
+// Whether a word is this one byte.
+fn is_byte(word: &[u8], byte: u8) -> bool {
+    if word.len() != 1 {
+        return false;
+    }
+    word[0] == byte
+}
+
+// Whether a word is of a kind: `s` a byte string, `f` a flag; `b`, `h`, `w` and `n` a number of 8, 16, 32 and 64 bits;
+// a digit that digit itself, `t` the number 20.
 fn is_of_kind(word: &[u8], kind: u8) -> bool {
     match kind {
-        b's' => {
-            if same(word, b"-") {
-                return true;
-            }
-            is_bytes(word)
-        }
+        b's' => is_bytes(word),
+        b'0'..=b'9' => is_byte(word, kind),
+        b't' => same(word, b"20"),
         b'f' => is_number(word, 1),
         b'b' => is_number(word, u8::MAX as u64),
         b'h' => is_number(word, u16::MAX as u64),
@@ -217,28 +174,15 @@ fn is_of_kind(word: &[u8], kind: u8) -> bool {
 
 // Whether the words after the first are of these kinds.
 fn are_of_kinds(line: &[u8], kinds: &[u8]) -> bool {
-    let mut end = find(line, 0, b' ');
     let mut k: usize = 0;
     while k < kinds.len() {
-        if end == line.len() {
-            return false;
-        }
-        let start = end + 1;
-        end = find(line, start, b' ');
-        if !is_of_kind(&line[start..end], kinds[k]) {
+        if !is_of_kind(word(line, k + 1), kinds[k]) {
             return false;
         }
         k += 1;
     }
-    end == line.len()
-}
-
-// Whether a line begins with `name`, which ends in a space, and its words after the first are of these kinds.
-pub fn is_call(line: &[u8], name: &[u8], kinds: &[u8]) -> bool {
-    if begins(line, name) {
-        return are_of_kinds(line, kinds);
-    }
-    false
+    let last = part_start(line, k, b' ');
+    find(line, last, line.len(), b' ') == line.len()
 }
 
 // Which call of a table a line is, counted from 1; 0 where it is none. The table has each call's name and the kinds of its words.
@@ -293,26 +237,18 @@ fn put_pairs(pairs: &[u8], room: &mut [u8]) {
     let count = lesser(pairs.len() / 2, room.len());
     let mut i: usize = 0;
     while i < count {
-        room[i] = digit(pairs[2 * i]) * 16 + digit(pairs[2 * i + 1]);
+        room[i] = pair(pairs[2 * i], pairs[2 * i + 1]);
         i += 1;
     }
 }
 
-// The number after the `+` that begins `rest`, 0 where nothing is left.
-fn zeros(rest: &[u8]) -> usize {
-    if rest.len() == 0 {
-        return 0;
-    }
-    number(&rest[1..]) as usize
-}
-
 // Puts the byte string of word `k` at the start of `room`, and answers how many bytes it has.
-pub fn bytes_at(line: &[u8], k: usize, room: &mut [u8; 2400]) -> usize
+pub fn bytes_at(line: &[u8], k: usize, room: &mut [u8]) -> usize
     ensures { λ r. ⌜ Counts r (now (room .exit)) ⌝ }
 {
     let spelt = word(line, k);
-    let plus = find(spelt, 0, b'+');
-    put_pairs(&spelt[0..plus], room);
-    let zeros = lesser(zeros(&spelt[plus..]), MOST_BYTES);
-    lesser(plus / 2 + zeros, MOST_BYTES)
+    let pairs = part(spelt, 0, b'+');
+    put_pairs(pairs, room);
+    let zeros = lesser(number(part(spelt, 1, b'+')) as usize, MOST_BYTES);
+    lesser(pairs.len() / 2 + zeros, room.len())
 }

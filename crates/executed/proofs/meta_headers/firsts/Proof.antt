@@ -1,8 +1,8 @@
--- `each_first` is safe and ends: the number is a byte in each turn.
+-- `firsts` is safe and ends: the number is a byte in each turn.
 use borrow.Author.Needs.{needs}
 use Prim.Native.Nat.{_-_, _≤_}
-use Rattle.executed.proofs.meta_headers.each_first.Statement.{statement}
-use Rattle.executed.proofs.meta_headers.each_first.Tie as tie
+use Rattle.executed.proofs.meta_headers.firsts.Statement.{statement}
+use Rattle.executed.proofs.meta_headers.firsts.Tie as tie
 
 abbrev Inv-loop : tie.InvT-loop
 Inv-loop bytes byte₀ byte = byte ≤ 256
@@ -31,8 +31,8 @@ loop-again c = search needs
 returns : tie.Need-returns Inv-loop μ-loop
 returns c = search needs
 
-pub each-first-spec : {M : Type 1} → statement M
-each-first-spec =
+pub firsts-spec : {M : Type 1} → statement M
+firsts-spec =
     tie.close
     (tie.spec
     Inv-loop

@@ -1,24 +1,27 @@
--- `find` meets its contract: the index stays between the start and the length.
+-- `part_start` meets its contract: the index stays within the text.
 use borrow.Author.Needs.{needs}
 use Prim.Native.Nat.{_-_, _≤_}
 use lib.ListN.{length}
-use Rattle.executed.proofs.words.find.Statement.{statement}
-use Rattle.executed.proofs.words.find.Tie as tie
+use Rattle.executed.proofs.words.part_start.Statement.{statement}
+use Rattle.executed.proofs.words.part_start.Tie as tie
 
 abbrev Inv-loop : tie.InvT-loop
-Inv-loop text start byte i₀ i = (i₀ ≤ i) × (i ≤ length text)
+Inv-loop text k separator left₀ i₀ left i = i ≤ length text
 
 abbrev μ-loop : tie.MeasureT-loop
-μ-loop text start byte i₀ i = length text - i
+μ-loop text k separator left₀ i₀ left i = length text - i
 
 loop-holds : tie.Need-loop-holds Inv-loop μ-loop
 loop-holds c = search needs
 
-shared-slice-read-if1 : tie.Need-shared-slice-read-if1 Inv-loop μ-loop
-shared-slice-read-if1 c = search needs
-
 returns : tie.Need-returns Inv-loop μ-loop
 returns c = search needs
+
+shared-slice-read-if2 : tie.Need-shared-slice-read-if2 Inv-loop μ-loop
+shared-slice-read-if2 c = search needs
+
+sub-left : tie.Need-sub-left Inv-loop μ-loop
+sub-left c = search needs
 
 add-i : tie.Need-add-i Inv-loop μ-loop
 add-i c = search needs
@@ -32,15 +35,16 @@ loop-again c = search needs
 returns-2 : tie.Need-returns-2 Inv-loop μ-loop
 returns-2 c = search needs
 
-pub find-spec : {M : Type 1} → statement M
-find-spec =
+pub part-start-spec : {M : Type 1} → statement M
+part-start-spec =
     tie.close
     (tie.spec
     Inv-loop
     μ-loop
     loop-holds
-    shared-slice-read-if1
     returns
+    shared-slice-read-if2
+    sub-left
     add-i
     loop-less
     loop-again
