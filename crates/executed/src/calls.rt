@@ -35,7 +35,7 @@ pub fn answer(line: &[u8]) {
     read_at(number, path, &room[..length], words::index_at(line, 3));
 }
 
-// Answers a call on the path whose type is word 1 and whose bytes are word 2, at the index of word 3.
+// Answers a call on the path whose type is word 1 and whose bytes are word 2, at the index of word 3; `get` reads these bytes alone.
 fn read_at(number: usize, path: DataplanePath, bytes: &[u8], index: usize) {
     match number {
         1 => paths::read(path, bytes),

@@ -128,7 +128,7 @@ fn number(word: &[u8]) -> u64 {
     }
 }
 
-// Whether a word is `-`, or pairs of digits and mostly a number of zero bytes after them.
+// Whether a word is a byte string: `-`, or pairs of digits, which `+` and a number of zero bytes may follow.
 fn is_bytes(word: &[u8]) -> bool {
     let digits = digits(word);
     if digits == 0 {

@@ -1,16 +1,17 @@
 -- Numbers on the wire, one law over the width for each fact.
 -- Assumes nothing.
 use mathlib.Core.Path.{_≡_, refl, sym, ap, ap₂, _∙_}
+use mathlib.Core.Bool.{Bool, true, false}
 use mathlib.Core.List.{List, [], _∷_, _++_, append-assoc}
-use Prim.Native.Nat.{ℕ, zero, suc, _+_, _*_, _/_, _%_, _^_, _<_, _≤_}
+use Prim.Native.Nat.{ℕ, zero, suc, _+_, _-_, _*_, _/_, _%_, _^_, _<_, _≤_}
 use native.Mathlib.Nat.{mod-one, pow-suc, pow-le-pow-right, one-le-pow, zero-lt-suc}
 use native.Mathlib.Numerals.{add-one}
 use native.Mathlib.Omega.{arith}
 use lib.Arith.{mod-mul, digits-div, digits-mod}
-use lib.Dec.{lit<}
+use lib.Dec.{lit<, leb}
 use lib.ListN.{length, getD, take, drop, length-append}
 use lib.Seq.{sets, sets-eq, getD-append-add, getD-append-seam, getD-take, getD-drop, length-take-le}
-use borrow.Author.Tests.{le-leb, lt-leb}
+use borrow.Author.Tests.{le-leb, lt-leb, leb-true, leb-false}
 use Rattle.wire_encoding.specs.Choice.{value, refused, orZero}
 use Rattle.wire_encoding.specs.BigEndian.{bigEndian, bytesOf, room, numberAt, part}
 use Rattle.wire_encoding.proofs.Parts.{Bytes, part-last, sets-same}
@@ -35,6 +36,14 @@ module _ (bytes : List ℕ) (b : Bytes bytes) (at : ℕ) where
 pub more : (bytes : List ℕ) (at width : ℕ) → bigEndian (width + 1) bytes at ≡ bigEndian width bytes at * 256 + getD bytes (at + width) 0
 unfolding bigEndian
 more bytes at width = rw add-one
+
+-- n bytes fit after an offset that lies inside where they fit into what is left there
+pub room-left : (len at n : ℕ) → at ≤ len → leb n (len - at) ≡ leb (at + n) len
+room-left len at n inside = go (leb n (len - at)) refl
+  where
+    go : (t : Bool) → leb n (len - at) ≡ t → leb n (len - at) ≡ leb (at + n) len
+    go true e = e ∙ sym (le-leb (at + n) len (omega (arith, leb-true n (len - at) e)))
+    go false e = e ∙ sym (lt-leb (at + n) len (omega (arith, leb-false n (len - at) e)))
 
 -- the two answers of a reader at any width
 module _ (width : ℕ) (bytes : List ℕ) (at : ℕ) where

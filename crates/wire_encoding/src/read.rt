@@ -2,6 +2,7 @@
 ghost use mathlib.Core.Path.{_≡_};
 ghost use Prim.Native.Nat.{_+_, _≤_, _<_};
 ghost use lib.ListN.{length};
+ghost use lib.Dec.{leb};
 ghost use Rattle.wire_encoding.specs.BigEndian.{bigEndian, numberAt};
 ghost use Rattle.wire_encoding.specs.Answers.{answer16, answer32, answer64};
 ghost use Rattle.wire_encoding.specs.Choice.{orZero};
@@ -31,6 +32,16 @@ pub fn wide(byte: u8) -> usize
     byte as usize
 }
 
+// Whether `len` bytes have `n` bytes at `at`; the sum of the two need not be a number.
+pub(crate) fn has_room(len: usize, at: usize, n: usize) -> bool
+    ensures { λ r. ⌜ r ≡ leb (at + n) len ⌝ }
+{
+    if len < at {
+        return false;
+    }
+    n <= len - at
+}
+
 // The number of `width` bytes at `at`, highest byte first.
 fn read_big_endian(bytes: &[u8], at: usize, width: usize) -> u64
     requires { ⌜ (width ≤ 8) × (at + width ≤ length (now bytes)) ⌝ }
@@ -50,10 +61,8 @@ fn read_big_endian(bytes: &[u8], at: usize, width: usize) -> u64
 pub fn get_u16(bytes: &[u8], at: usize) -> Read16
     ensures { λ r. ⌜ answer16 r ≡ numberAt 2 (now (bytes .entry)) at ⌝ }
 {
-    if at <= bytes.len() {
-        if 2 <= bytes.len() - at {
-            return Read16::Value(read_big_endian(bytes, at, 2) as u16);
-        }
+    if has_room(bytes.len(), at, 2) {
+        return Read16::Value(read_big_endian(bytes, at, 2) as u16);
     }
     Read16::Truncated
 }
@@ -62,10 +71,8 @@ pub fn get_u16(bytes: &[u8], at: usize) -> Read16
 pub fn get_u32(bytes: &[u8], at: usize) -> Read32
     ensures { λ r. ⌜ answer32 r ≡ numberAt 4 (now (bytes .entry)) at ⌝ }
 {
-    if at <= bytes.len() {
-        if 4 <= bytes.len() - at {
-            return Read32::Value(read_big_endian(bytes, at, 4) as u32);
-        }
+    if has_room(bytes.len(), at, 4) {
+        return Read32::Value(read_big_endian(bytes, at, 4) as u32);
     }
     Read32::Truncated
 }
@@ -74,10 +81,8 @@ pub fn get_u32(bytes: &[u8], at: usize) -> Read32
 pub fn get_u64(bytes: &[u8], at: usize) -> Read64
     ensures { λ r. ⌜ answer64 r ≡ numberAt 8 (now (bytes .entry)) at ⌝ }
 {
-    if at <= bytes.len() {
-        if 8 <= bytes.len() - at {
-            return Read64::Value(read_big_endian(bytes, at, 8));
-        }
+    if has_room(bytes.len(), at, 8) {
+        return Read64::Value(read_big_endian(bytes, at, 8));
     }
     Read64::Truncated
 }

@@ -1,4 +1,5 @@
 // Big-endian numbers of 2, 4 and 8 bytes, and runs of bytes, written at an offset of a lent slice.
+use crate::read::has_room;
 ghost use mathlib.Core.Path.{_≡_};
 ghost use Prim.Native.Nat.{_+_, _≤_};
 ghost use lib.ListN.{length};
@@ -31,11 +32,9 @@ pub fn put_u16(dst: &mut [u8], at: usize, number: u16) -> Put
     ensures { λ r. ⌜ numberOfPut r ≡ placing (now (dst .entry)) at (bytesOf 2 number) ⌝ }
     ensures { λ _. ⌜ now (dst .exit) ≡ placed (now (dst .entry)) at (bytesOf 2 number) ⌝ }
 {
-    if at <= dst.len() {
-        if 2 <= dst.len() - at {
-            write_big_endian(dst, at, 2, number as u64);
-            return Put::Done;
-        }
+    if has_room(dst.len(), at, 2) {
+        write_big_endian(dst, at, 2, number as u64);
+        return Put::Done;
     }
     Put::InadequateBufferSize
 }
@@ -45,11 +44,9 @@ pub fn put_u32(dst: &mut [u8], at: usize, number: u32) -> Put
     ensures { λ r. ⌜ numberOfPut r ≡ placing (now (dst .entry)) at (bytesOf 4 number) ⌝ }
     ensures { λ _. ⌜ now (dst .exit) ≡ placed (now (dst .entry)) at (bytesOf 4 number) ⌝ }
 {
-    if at <= dst.len() {
-        if 4 <= dst.len() - at {
-            write_big_endian(dst, at, 4, number as u64);
-            return Put::Done;
-        }
+    if has_room(dst.len(), at, 4) {
+        write_big_endian(dst, at, 4, number as u64);
+        return Put::Done;
     }
     Put::InadequateBufferSize
 }
@@ -59,11 +56,9 @@ pub fn put_u64(dst: &mut [u8], at: usize, number: u64) -> Put
     ensures { λ r. ⌜ numberOfPut r ≡ placing (now (dst .entry)) at (bytesOf 8 number) ⌝ }
     ensures { λ _. ⌜ now (dst .exit) ≡ placed (now (dst .entry)) at (bytesOf 8 number) ⌝ }
 {
-    if at <= dst.len() {
-        if 8 <= dst.len() - at {
-            write_big_endian(dst, at, 8, number);
-            return Put::Done;
-        }
+    if has_room(dst.len(), at, 8) {
+        write_big_endian(dst, at, 8, number);
+        return Put::Done;
     }
     Put::InadequateBufferSize
 }
@@ -85,11 +80,9 @@ pub fn put_slice(dst: &mut [u8], at: usize, src: &[u8]) -> Put
     ensures { λ r. ⌜ numberOfPut r ≡ placing (now (dst .entry)) at (now (src .entry)) ⌝ }
     ensures { λ _. ⌜ now (dst .exit) ≡ placed (now (dst .entry)) at (now (src .entry)) ⌝ }
 {
-    if at <= dst.len() {
-        if src.len() <= dst.len() - at {
-            write_bytes(src, dst, at);
-            return Put::Done;
-        }
+    if has_room(dst.len(), at, src.len()) {
+        write_bytes(src, dst, at);
+        return Put::Done;
     }
     Put::InadequateBufferSize
 }

@@ -1,24 +1,27 @@
 -- `get_u64` meets its contract: the laws over the width, at 8.
-use native.Mathlib.Omega.{arith}
+use mathlib.Core.Path.{sym, _∙_}
+use Prim.Native.Nat.{_+_, _≤_}
+use lib.ListN.{length}
 use borrow.Author.Needs.{needs}
+use borrow.Author.Tests.{leb-true, leb-false}
 use Rattle.wire_encoding.proofs.Numbers.{found, truncated}
 use Rattle.wire_encoding.proofs.read.get_u64.Statement.{statement}
 use Rattle.wire_encoding.proofs.read.get_u64.Tie as tie
 
-sub-if2 : tie.Need-sub-if2
-sub-if2 c = search needs
+has-room-requires : tie.Need-has-room-requires
+has-room-requires c κs = search needs
 
 read-big-endian-requires : tie.Need-read-big-endian-requires
-read-big-endian-requires c κs = search needs
+read-big-endian-requires c κs =
+    let a = c .before .before .before .args in
+    let room : a .at + 8 ≤ length (a .bytes .now) = leb-true _ _ (sym (c .before .has-room .ensures) ∙ c .if1 .taken) in
+    search needs
 
 returns : tie.Need-returns
-returns c = found 8 _ _ (omega arith) (c .read-big-endian .ensures)
+returns c = found 8 _ _ (leb-true _ _ (sym (c .before .before .has-room .ensures) ∙ c .before .if1 .taken)) (c .read-big-endian .ensures)
 
 returns-2 : tie.Need-returns-2
-returns-2 c = truncated 8 _ _ (omega arith)
-
-returns-3 : tie.Need-returns-3
-returns-3 c = truncated 8 _ _ (omega arith)
+returns-2 c = truncated 8 _ _ (leb-false _ _ (sym (c .before .has-room .ensures) ∙ c .if1 .left))
 
 pub get-u64-spec : {M : Type 1} → statement M
-get-u64-spec = tie.close (tie.spec sub-if2 read-big-endian-requires returns returns-2 returns-3)
+get-u64-spec = tie.close (tie.spec has-room-requires read-big-endian-requires returns returns-2)

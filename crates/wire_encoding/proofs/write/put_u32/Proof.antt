@@ -1,28 +1,33 @@
 -- `put_u32` meets its contract: the laws of a written run, at the 4 bytes of the number.
-use native.Mathlib.Omega.{arith}
+use mathlib.Core.Path.{sym, _∙_}
+use Prim.Native.Nat.{_+_, _≤_}
+use lib.ListN.{length}
 use borrow.Author.Needs.{needs}
+use borrow.Author.Tests.{leb-true, leb-false}
 use Rattle.wire_encoding.proofs.Numbers.{length-bytesOf}
 use Rattle.wire_encoding.proofs.Writes.{done, refused}
 use Rattle.wire_encoding.proofs.write.put_u32.Statement.{statement}
 use Rattle.wire_encoding.proofs.write.put_u32.Tie as tie
 
-sub-if2 : tie.Need-sub-if2
-sub-if2 c = search needs
+has-room-requires : tie.Need-has-room-requires
+has-room-requires c κs = search needs
 
 write-big-endian-requires : tie.Need-write-big-endian-requires
-write-big-endian-requires c κs = search needs
+write-big-endian-requires c κs =
+    let a = c .before .before .before .before .args in
+    let room : a .at + 4 ≤ length (a .dst .now) = leb-true _ _ (sym (c .before .before .has-room .ensures) ∙ c .before .if1 .taken) in
+    search needs
 
 same-length : tie.Need-same-length
 same-length c = search needs
 
 returns : tie.Need-returns
-returns c = done _ _ _ 4 (length-bytesOf 4 _) (omega arith) (c .before .before .write-big-endian .ensures)
+returns c =
+    done _ _ _ 4 (length-bytesOf 4 _) (leb-true _ _ (sym (c .before .before .before .before .before .has-room .ensures) ∙ c .before .before .before .before .if1 .taken))
+    (c .before .before .write-big-endian .ensures)
 
 returns-2 : tie.Need-returns-2
-returns-2 c = refused _ _ _ 4 (length-bytesOf 4 _) (omega arith)
-
-returns-3 : tie.Need-returns-3
-returns-3 c = refused _ _ _ 4 (length-bytesOf 4 _) (omega arith)
+returns-2 c = refused _ _ _ 4 (length-bytesOf 4 _) (leb-false _ _ (sym (c .before .has-room .ensures) ∙ c .if1 .left))
 
 pub put-u32-spec : {M : Type 1} → statement M
-put-u32-spec = tie.close (tie.spec sub-if2 write-big-endian-requires same-length returns returns-2 returns-3)
+put-u32-spec = tie.close (tie.spec has-room-requires write-big-endian-requires same-length returns returns-2)
