@@ -1,7 +1,5 @@
 // Text on standard output: a line is a name, padded to a column, and what it says.
 use libc::STDOUT_FILENO;
-use wire_encoding::write::put_u64;
-ghost use Prim.Native.Nat.{_<_};
 
 // The column at which a line's value starts.
 const COLUMN: usize = 24;
@@ -14,20 +12,9 @@ pub fn number(number: u64) {
     io::print_decimal(STDOUT_FILENO, number);
 }
 
-// The hexadecimal digit of a number below 16.
-fn glyph(digit: u8) -> u8
-    requires { ⌜ digit < 16 ⌝ }
-{
-    if digit < 10 {
-        b'0' + digit
-    } else {
-        b'a' + (digit - 10)
-    }
-}
-
 // The two hexadecimal digits of a byte.
 fn pair(byte: u8) {
-    text(&[glyph(byte / 16), glyph(byte % 16)]);
+    io::print_hex(STDOUT_FILENO, byte as u64, 2);
 }
 
 // The two digits of each byte; `-` where there is none.
@@ -44,15 +31,12 @@ pub fn hex(bytes: &[u8]) {
 
 // A 16-bit number as four digits.
 pub fn hex_16(number: u16) {
-    pair((number / 256) as u8);
-    pair((number % 256) as u8);
+    io::print_hex(STDOUT_FILENO, number as u64, 4);
 }
 
 // A 64-bit number as sixteen digits.
 pub fn hex_64(number: u64) {
-    let mut bytes = [0; 8];
-    put_u64(&mut bytes, 0, number);
-    hex(&bytes);
+    io::print_hex(STDOUT_FILENO, number, 16);
 }
 
 // Spaces from a column to the one at which values start.
