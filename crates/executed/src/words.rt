@@ -2,7 +2,7 @@
 // A byte string is `-` where it is empty, else pairs of hexadecimal digits; `+N` after them adds N zero bytes.
 use bytes::scan::find;
 use check::same;
-ghost use Prim.Native.Nat.{_≤_, _<_};
+ghost use Prim.Native.Nat.{_≤_};
 ghost use lib.ListN.{length};
 ghost use Rattle.io.specs.Counts.{Counts};
 
