@@ -6,7 +6,7 @@ use Prim.Native.Nat.{ℕ, _+_, _*_, _^_, _<_}
 use native.Mathlib.Omega.{arith}
 use Rattle.bits.proofs.BitLaws.{bit-kept}
 use Rattle.bits.specs.Bits.{withBit}
-use Rattle.wire_encoding.specs.Choice.{value, refused}
+use Rattle.wire_encoding.specs.Result.{ok, refused}
 use Rattle.address.specs.Ia.{isdOf, asnOf, isWildcard, joined}
 use Rattle.address.specs.Service.{isMulticast, multicastOf, anycastOf}
 use Rattle.address.specs.Host.{hostTypeNumber, hostTypeOf}
@@ -44,7 +44,7 @@ type-back type.Svc = refl
 pub examples :
     (isdOf 0x0001_FF00_0000_0110 ≡ 1) × (asnOf 0x0001_FF00_0000_0110 ≡ 0xFF00_0000_0110) × (isWildcard 0x0001_FF00_0000_0110 ≡ false)
     × (isWildcard 0x0001_0000_0000_0000 ≡ true) × (isWildcard 0x0000_0000_0000_0001 ≡ true)
-    × (joined 1 0xFF00_0000_0110 ≡ value 0x0001_FF00_0000_0110) × (joined 0 0x1_0000_0000_0000 ≡ refused 10)
+    × (joined 1 0xFF00_0000_0110 ≡ ok 0x0001_FF00_0000_0110) × (joined 0 0x1_0000_0000_0000 ≡ refused 10)
     × (multicastOf 0x0002 ≡ 0x8002) × (anycastOf 0x8002 ≡ 0x0002)
 unfolding joined withBit
 examples = (refl, refl, refl, refl, refl, refl, refl, refl, refl)

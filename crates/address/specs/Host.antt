@@ -1,7 +1,7 @@
 -- Hosts: the types that have a name, and the host kinds on the wire (the draft's DT and DL, ST and SL).
 use Prim.Native.Nat.{ℕ}
+use mathlib.Core.Bool.{cond}
 use lib.Dec.{eqb}
-use Rattle.wire_encoding.specs.Choice.{pick}
 use Rattle.address.specs.declared.host.HostAddr.{HostAddr}
 use Rattle.address.specs.declared.host.HostAddr.the-variants as addr
 use Rattle.address.specs.declared.host.HostType.{HostType}
@@ -21,9 +21,9 @@ hostTypeNumber type.Svc = 3
 -- the type of a number, and none above 3
 unfoldable pub hostTypeOf : ℕ → HostTypeRead
 hostTypeOf byte =
-    pick (eqb byte 0) (read.Known type.None)
-    (pick (eqb byte 1) (read.Known type.Ipv4)
-    (pick (eqb byte 2) (read.Known type.Ipv6) (pick (eqb byte 3) (read.Known type.Svc) read.Unknown)))
+    cond (eqb byte 0) (read.Known type.None)
+    (cond (eqb byte 1) (read.Known type.Ipv4)
+    (cond (eqb byte 2) (read.Known type.Ipv6) (cond (eqb byte 3) (read.Known type.Svc) read.Unknown)))
 
 abbrev pub typeOfHost : HostAddr → HostType
 typeOfHost addr.V4 = type.Ipv4

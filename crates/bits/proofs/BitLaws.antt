@@ -1,7 +1,7 @@
 -- A bit set, cleared or flipped by a mask, one law over the bit for each; and what the other bits keep.
 -- Assumes nothing.
 use mathlib.Core.Path.{_≡_, refl, sym, ap, ap₂, _∙_}
-use mathlib.Core.Bool.{Bool, true, false, not}
+use mathlib.Core.Bool.{Bool, true, false, not, cond}
 use Prim.Native.Nat.{ℕ, zero, suc, _+_, _-_, _*_, _/_, _%_, _^_, _<_, min, max}
 use native.Mathlib.Nat.{add-mul-div-right, add-mul-mod-self-right, add-mul, one-mul, add-zero, mod-lt, mod-eq-of-lt, min-zero}
 use native.Mathlib.Omega.{arith}
@@ -23,7 +23,6 @@ use lib.Bits.{
 use borrow.Author.Tests.{eq-eqb, ne-eqb}
 use lib.Dec.{lit<}
 use lib.Pow.{split, pow-pos}
-use Rattle.wire_encoding.specs.Choice.{pick}
 use Rattle.bits.specs.Bits.{bitOf, withBit}
 
 -- how each operation acts on the lowest bit
@@ -84,7 +83,7 @@ module _ (k n : ℕ) where
       ∙ ap₂ (λ (x y : ℕ). x * 2 ^ k + y) (or-one (n / 2 ^ k)) (or-zero-r (n % 2 ^ k))
       ∙ go (n / 2 ^ k % 2) refl (mod-lt (n / 2 ^ k) (lit< tt))
     where
-      go : (b : ℕ) → n / 2 ^ k % 2 ≡ b → b < 2 → (n / 2 ^ k / 2 * 2 + max (n / 2 ^ k % 2) 1) * 2 ^ k + n % 2 ^ k ≡ pick (bitOf k n) n (n + 2 ^ k)
+      go : (b : ℕ) → n / 2 ^ k % 2 ≡ b → b < 2 → (n / 2 ^ k / 2 * 2 + max (n / 2 ^ k % 2) 1) * 2 ^ k + n % 2 ^ k ≡ cond (bitOf k n) n (n + 2 ^ k)
       go zero e h = rw e (set-0 e)
       go (suc zero) e h = rw e (set-1 e)
       go (suc (suc b)) e h = omega arith
@@ -98,7 +97,7 @@ module _ (k n : ℕ) where
       ∙ ap₂ (λ (x y : ℕ). x * 2 ^ k + y) (and-all-but-one j (n / 2 ^ k) h) (and-mask (n % 2 ^ k) k ∙ mod-eq-of-lt fits-low)
       ∙ go (n / 2 ^ k % 2) refl (mod-lt (n / 2 ^ k) (lit< tt))
     where
-      go : (b : ℕ) → n / 2 ^ k % 2 ≡ b → b < 2 → n / 2 ^ k / 2 * 2 * 2 ^ k + n % 2 ^ k ≡ pick (bitOf k n) (n - 2 ^ k) n
+      go : (b : ℕ) → n / 2 ^ k % 2 ≡ b → b < 2 → n / 2 ^ k / 2 * 2 * 2 ^ k + n % 2 ^ k ≡ cond (bitOf k n) (n - 2 ^ k) n
       go zero e h = rw e (clear-0 e)
       go (suc zero) e h = rw e (clear-1 e)
       go (suc (suc b)) e h = omega arith

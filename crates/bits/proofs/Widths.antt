@@ -1,15 +1,15 @@
 -- Bounded numbers, one law over the bits for each of the two answers.
 -- Assumes nothing.
-use mathlib.Core.Path.{_≡_, refl}
-use mathlib.Core.Bool.{Bool, true, false}
+use mathlib.Core.Path.{_≡_, sym}
+use mathlib.Core.Bool.{true, false}
 use Prim.Native.Nat.{ℕ, _^_, _<_, _≤_}
-use native.Mathlib.Omega.{arith}
 use lib.Dec.{ltb}
 use borrow.Author.Tests.{lt-ltb, le-ltb}
-use Rattle.wire_encoding.specs.Choice.{pick, value, refused}
+use Rattle.wire_encoding.specs.Result.{ok, refused}
+use Rattle.wire_encoding.proofs.Results.{held, unmet}
 use Rattle.bits.specs.Bounded.{bounded}
 
-pub fits : (bits n : ℕ) → n < 2 ^ bits → value n ≡ bounded bits n
+pub fits : (bits n : ℕ) → n < 2 ^ bits → ok n ≡ bounded bits n
 unfolding bounded
 fits bits n h = simp (lt-ltb _ _ h)
 
@@ -18,18 +18,10 @@ unfolding bounded
 too-wide bits n h = simp (le-ltb _ _ h)
 
 -- what an answer says of the number
-pub was-value : (bits n : ℕ) {v : ℕ} → value v ≡ bounded bits n → true ≡ ltb n (2 ^ bits)
+pub was-value : (bits n : ℕ) {v : ℕ} → ok v ≡ bounded bits n → true ≡ ltb n (2 ^ bits)
 unfolding bounded
-was-value bits n {v} e = go (ltb n (2 ^ bits)) e
-  where
-    go : (t : Bool) → value v ≡ pick t (value n) (refused 10) → true ≡ t
-    go true e = refl
-    go false e = let z : _≡_ {A = ℕ} 0 1 = cc in absurd (omega arith)
+was-value bits n e = sym (held (ltb n (2 ^ bits)) 10 _ (sym e) .0)
 
 pub was-wide : (bits n : ℕ) → refused 10 ≡ bounded bits n → false ≡ ltb n (2 ^ bits)
 unfolding bounded
-was-wide bits n e = go (ltb n (2 ^ bits)) e
-  where
-    go : (t : Bool) → refused 10 ≡ pick t (value n) (refused 10) → false ≡ t
-    go true e = let z : _≡_ {A = ℕ} 0 1 = cc in absurd (omega arith)
-    go false e = refl
+was-wide bits n e = sym (unmet (ltb n (2 ^ bits)) 10 n (sym e))

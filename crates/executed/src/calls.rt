@@ -9,7 +9,6 @@ use crate::runs;
 use crate::travel;
 use crate::values;
 use crate::words;
-use address_header_encoding::encode_to;
 use path::dataplane::DataplanePath;
 use path_copy::copy_to_slice;
 use path_fields::expiry;
@@ -134,7 +133,7 @@ fn write(number: usize, line: &[u8], bytes: &[u8], dst: &mut [u8]) {
         2 => travel::done(reverse_to_slice(path.path_type, bytes, dst)),
         3 => meta_headers::encode(line, dst),
         // `putaddress`, the eight words of an address header, and D: an address header written alone.
-        4 => packets::encoded(encode_to(packets::address_at(line, 1), dst)),
+        4 => packets::encoded(packets::address_at(line, 1).encode_to(dst)),
         5 => packets::put_common(line, dst),
         6 => packets::new(line, bytes, dst),
         _ => packets::write(line, bytes, dst),

@@ -1,7 +1,7 @@
 // Calls on the meta header of a path.
+use crate::packets;
 use crate::print;
 use crate::words;
-use meta_header_encoding::Encoded;
 use meta_header_encoding::Word;
 use path_meta_header::HopFieldOf;
 use path_meta_header::Offset;
@@ -96,11 +96,7 @@ pub fn counts(line: &[u8]) {
 
 // `encode C H R a b c B`: a header written to a destination that holds B.
 pub fn encode(line: &[u8], dst: &mut [u8]) {
-    match meta_header_encoding::encode_to(record_at(line), dst) {
-        Encoded::Done => print::number(0),
-        Encoded::TooWide => print::number(10),
-        Encoded::InadequateBufferSize => print::number(9),
-    }
+    packets::encoded(meta_header_encoding::encode_to(record_at(line), dst));
 }
 
 // `ifhop a b c i`: the hop field of interface i.

@@ -5,13 +5,13 @@ use crate::words;
 use address::host::HostAddr;
 use address::ia::IsdAsn;
 use address::service::ServiceAddr;
-use address_header::AddressHeader;
-use address_header::HostAddress;
-use address_header::MaybeEncoded;
-use common_header::CommonHeader;
-use common_header_encoding::error::Encoded;
 use headers::ScionHeaders;
 use packet::raw::ScionPacketRaw;
+use packet_address_header::AddressHeader;
+use packet_address_header::HostAddress;
+use packet_address_header::MaybeEncoded;
+use packet_common_header::CommonHeader;
+use path_error::Encoded;
 ghost use Prim.Native.Nat.{_<_};
 
 // Document 01's number of an answer to writing.
@@ -189,5 +189,5 @@ pub fn put_common(line: &[u8], dst: &mut [u8]) {
         source_kind: words::u8_at(line, 9),
         reserved: words::u16_at(line, 10),
     };
-    encoded(common_header_encoding::encode_to(header, dst));
+    encoded(header.encode_to(dst));
 }

@@ -1,81 +1,66 @@
 -- Headers that the tests let through: each part of them is written, and the parts fill the destination.
 -- Assumes nothing.
 use mathlib.Core.Path.{_≡_, refl, sym, ap, ap₂, _∙_}
-use mathlib.Core.Bool.{Bool, true, false}
+use mathlib.Core.Bool.{Bool, true, false, cond, not}
 use mathlib.Core.List.{List, [], _++_}
 use Prim.Native.Nat.{ℕ, _+_, _-_, _/_, _≤_}
 use native.Mathlib.Nat.{zero-add, sub-zero}
 use native.Mathlib.Omega.{arith}
 use lib.ListN.{length, take, drop, length-append}
 use lib.Seq.{sets, sets-eq, take-length, length-take-le, length-sets}
-use lib.Dec.{ltb, eqb}
-use borrow.Author.Tests.{ltb-false, eqb-true}
-use Rattle.wire_encoding.specs.Choice.{pick}
+use lib.Dec.{leb, eqb}
+use borrow.Author.Tests.{leb-true, eqb-true}
+use Rattle.wire_encoding.specs.Result.{ok, orElse}
 use Rattle.wire_encoding.specs.BigEndian.{placed}
+use Rattle.wire_encoding.proofs.Results.{held}
 use Rattle.wire_encoding.proofs.Parts.{sets-append, sets-whole}
 use Rattle.wire_encoding.proofs.Writes.{placed-is}
-use Rattle.common_header.specs.CommonHeader.{hostLength}
-use Rattle.address_header.specs.AddressHeader.{addressLength, lengthOfKinds}
-use Rattle.common_header_encoding.specs.Encoding.{encoded, fieldsFit, commonFits, commonBytes, commonEncoding}
-use Rattle.address_header_encoding.specs.Encoding.{hostOnWire, onWire, wireLength, wireBytes, addressBytes}
-use Rattle.common_header.specs.declared.CommonHeader.{CommonHeader}
-use Rattle.address_header.specs.declared.AddressHeader.{AddressHeader}
-use Rattle.address_header_encoding.specs.declared.WireAddress.{WireAddress}
-use Rattle.common_header_encoding.specs.declared.error.Encoded.the-variants.{Done, Refused}
-use Rattle.common_header_encoding.specs.declared.error.EncodeError.the-variants.{
-  NumberTooWide,
-  InvalidHeaderLength,
-  HeaderTooLarge,
-  PayloadTooLarge,
-  InadequateBufferSize,
-}
-use Rattle.common_header_encoding.proofs.EncodingLaws.{not-done, length-commonBytes}
-use Rattle.address_header_encoding.proofs.EncodingLaws.{Sixteen, wire-length, length-addressBytes, sets-apart}
+use Rattle.path_error.specs.Errors.{encodedOf}
+use Rattle.packet_common_header.specs.CommonHeader.{hostLength, fieldsFit, commonFits, commonBytes, writeCommon}
+use Rattle.packet_address_header.specs.AddressHeader.{addressLength, lengthOfKinds, hostOnWire, onWire, wireLength, wireBytes, addressBytes}
+use Rattle.packet_common_header.specs.declared.CommonHeader.{CommonHeader}
+use Rattle.packet_address_header.specs.declared.AddressHeader.{AddressHeader}
+use Rattle.packet_address_header.specs.declared.WireAddress.{WireAddress}
+use Rattle.path_error.specs.declared.Encoded.the-variants.{Done}
+use Rattle.packet_common_header.proofs.CommonLaws.{length-commonBytes, common-written}
+use Rattle.packet_address_header.proofs.WritingLaws.{Sixteen, wire-length, length-addressBytes, sets-apart}
 use Rattle.headers.specs.declared.ScionHeaders.{ScionHeaders}
-use Rattle.headers.specs.Headers.{addedLength, addedBytes, headersLength, commonOf, encoding, headerBytes, Narrow}
+use Rattle.headers.specs.Headers.{addedLength, addedBytes, headersLength, commonOf, headerBytes, writeHeaders, Narrow}
 
 -- WHAT THE TESTS FOUND
 
-pub record Known (h : ScionHeaders) (n size : ℕ) : Type 0 where
+pub record Known (h : ScionHeaders) (path : List ℕ) (size : ℕ) : Type 0 where
   pub fits : commonFits (commonOf h) ≡ true
-  pub not-zero : eqb (h .«header_length_factor») 0 ≡ false
+  pub not-zero : not (eqb (h .«header_length_factor») 0) ≡ true
   pub factor : h .«header_length_factor» ≤ 255
   pub payload : h .«payload_length» ≤ 65535
-  pub exact : size ≡ headersLength (h .address) (h .«path_type») n
+  pub exact : size ≡ headersLength (h .address) (h .«path_type») (length path)
+  pub result : writeHeaders h path size ≡ ok (headerBytes h path)
 
-pub known : (h : ScionHeaders) (n size : ℕ) → encoding h n size ≡ Done → Known h n size
-unfolding encoding
-known h n size e =
-    go (commonFits (commonOf h)) (eqb (h .«header_length_factor») 0) (ltb 255 (h .«header_length_factor»)) (ltb 65535 (h .«payload_length»))
-    (eqb size (headersLength (h .address) (h .«path_type») n)) refl refl refl refl refl e
-  where
-    go : (f z l p s : Bool) → commonFits (commonOf h) ≡ f → eqb (h .«header_length_factor») 0 ≡ z → ltb 255 (h .«header_length_factor») ≡ l
-        → ltb 65535 (h .«payload_length») ≡ p → eqb size (headersLength (h .address) (h .«path_type») n) ≡ s
-        → pick f
-        (pick z (Refused InvalidHeaderLength)
-        (pick l (Refused HeaderTooLarge) (pick p (Refused PayloadTooLarge) (pick s Done (Refused InadequateBufferSize)))))
-        (Refused NumberTooWide) ≡ Done
-        → Known h n size
-    go false z l p s ef ez el ep es e = absurd (not-done e)
-    go true true l p s ef ez el ep es e = absurd (not-done e)
-    go true false true p s ef ez el ep es e = absurd (not-done e)
-    go true false false true s ef ez el ep es e = absurd (not-done e)
-    go true false false false false ef ez el ep es e = absurd (not-done e)
-    go true false false false true ef ez el ep es e = record {
-      fits = ef;
-      not-zero = ez;
-      factor = ltb-false _ _ el;
-      payload = ltb-false _ _ ep;
-      exact = eqb-true _ _ es;
+pub known : (h : ScionHeaders) (path : List ℕ) (size : ℕ) {written : List ℕ} → writeHeaders h path size ≡ ok written → Known h path size
+unfolding writeHeaders
+known h path size e =
+    let fits = held (commonFits (commonOf h)) _ _ e in
+    let not-zero = held (not (eqb (h .«header_length_factor») 0)) _ _ (fits .1) in
+    let factor = held (leb (h .«header_length_factor») 255) _ _ (not-zero .1) in
+    let payload = held (leb (h .«payload_length») 65535) _ _ (factor .1) in
+    let exact = held (eqb size (headersLength (h .address) (h .«path_type») (length path))) _ _ (payload .1) in
+    record {
+      fits = fits .0;
+      not-zero = not-zero .0;
+      factor = leb-true _ _ (factor .0);
+      payload = leb-true _ _ (payload .0);
+      exact = eqb-true _ _ (exact .0);
+      result = e ∙ sym (exact .1);
     }
 
-module _ (h : ScionHeaders) (n size : ℕ) (k : Known h n size) where
+module _ (h : ScionHeaders) (path : List ℕ) (size : ℕ) (k : Known h path size) where
   pub narrow : Narrow h
   narrow = record { factor = k .factor; payload = k .payload }
 
   -- so the common header is written
-  pub common-writes : commonEncoding (commonOf h) 12 ≡ Done
-  unfolding commonEncoding commonOf
+  pub common-writes : encodedOf (writeCommon (commonOf h) 12) ≡ Done
+  unfolding writeCommon commonOf encodedOf
   common-writes = rw (k .fits, k .not-zero)
 
 -- THE ADDRESS HEADER AS IT IS ON THE WIRE
@@ -92,12 +77,11 @@ module _ (h : ScionHeaders) (wire : WireAddress) (on : wire ≡ onWire (h .addre
 -- A PART LENT
 
 -- what the callee left in the first twelve bytes: the common header
-pub common-lent : (c : CommonHeader) (dst : List ℕ) {back : List ℕ} → commonEncoding c 12 ≡ Done → 12 ≤ length dst
-    → back ≡ encoded (commonEncoding c (length (take 12 dst))) (commonBytes c) (take 12 dst) → back ++ drop 12 dst ≡ sets dst 0 (commonBytes c)
-unfolding encoded
+pub common-lent : (c : CommonHeader) (dst : List ℕ) {back : List ℕ} → encodedOf (writeCommon c 12) ≡ Done → 12 ≤ length dst
+    → back ≡ orElse (writeCommon c (length (take 12 dst))) (take 12 dst) → back ++ drop 12 dst ≡ sets dst 0 (commonBytes c)
 common-lent c dst {back} done room e =
     let size : length (take 12 dst) ≡ 12 = length-take-le 12 dst room in
-    let whole : back ≡ commonBytes c = rw (size, done) at e in
+    let whole : back ≡ commonBytes c = rw (size, common-written c 12 done .result) at e in
     let l : length (commonBytes c) ≡ 12 = length-commonBytes c in
     rw whole (ap (λ (m : ℕ). commonBytes c ++ drop m dst) (sym l ∙ sym (zero-add (length (commonBytes c)))) ∙ sym (sets-eq (commonBytes c) dst 0 (omega arith)))
 
@@ -112,7 +96,7 @@ pub length-addedBytes : (type : ℕ) (path : List ℕ) → length (addedBytes ty
 unfolding addedBytes addedLength
 length-addedBytes type path = go (eqb type 0)
   where
-    go : (t : Bool) → length (pick t [] path) ≡ pick t 0 (length path)
+    go : (t : Bool) → length (cond t [] path) ≡ cond t 0 (length path)
     go true = refl
     go false = refl
 
@@ -121,7 +105,7 @@ pub added-part : (type : ℕ) (path : List ℕ) → take (addedLength type (leng
 unfolding addedBytes addedLength
 added-part type path = go (eqb type 0)
   where
-    go : (t : Bool) → take (pick t 0 (length path)) path ≡ pick t [] path
+    go : (t : Bool) → take (cond t 0 (length path)) path ≡ cond t [] path
     go true = refl
     go false = take-length path
 
@@ -129,7 +113,7 @@ pub added-few : (type n : ℕ) → addedLength type n ≤ n
 unfolding addedLength
 added-few type n = go (eqb type 0)
   where
-    go : (t : Bool) → pick t 0 n ≤ n
+    go : (t : Bool) → cond t 0 n ≤ n
     go true = omega arith
     go false = omega arith
 

@@ -1,17 +1,16 @@
--- All headers of a packet as bytes: the draft's Common Header, Address Header and path; and what writing them does.
+-- All headers of a packet as bytes: the draft's Common Header, Address Header and path, one after the other; and what writing them does.
 use Prim.Native.Nat.{ℕ, _+_, _-_, _/_, _^_, _≤_, min}
-use mathlib.Core.Path.{_≡_}
+use mathlib.Core.Bool.{cond, not}
 use mathlib.Core.List.{List, [], _++_}
-use lib.Dec.{ltb, eqb}
-use Rattle.wire_encoding.specs.Choice.{pick}
-use Rattle.address_header.specs.AddressHeader.{kindOf, addressLength}
-use Rattle.common_header_encoding.specs.Encoding.{commonFits, commonBytes}
-use Rattle.address_header_encoding.specs.Encoding.{addressBytes}
-use Rattle.common_header.specs.declared.CommonHeader.{CommonHeader}
-use Rattle.address_header.specs.declared.AddressHeader.{AddressHeader}
-use Rattle.common_header_encoding.specs.declared.error.Encoded.{Encoded}
-use Rattle.common_header_encoding.specs.declared.error.Encoded.the-variants.{Done, Refused}
-use Rattle.common_header_encoding.specs.declared.error.EncodeError.the-variants.{
+use lib.ListN.{length}
+use lib.Dec.{leb, eqb}
+use Rattle.wire_encoding.specs.Result.{Result, ok, require, _>>_}
+use Rattle.packet_common_header.specs.CommonHeader.{commonFits, commonBytes}
+use Rattle.packet_address_header.specs.AddressHeader.{kindOf, addressLength, addressBytes}
+use Rattle.packet_common_header.specs.declared.CommonHeader.{CommonHeader}
+use Rattle.packet_address_header.specs.declared.AddressHeader.{AddressHeader}
+use Rattle.path_error.specs.declared.EncodeError.{EncodeError}
+use Rattle.path_error.specs.declared.EncodeError.the-variants.{
   NumberTooWide,
   InvalidHeaderLength,
   HeaderTooLarge,
@@ -22,10 +21,10 @@ use Rattle.headers.specs.declared.ScionHeaders.{ScionHeaders}
 
 -- a path to be written is a type byte and bytes: type 0 adds none, any other adds its bytes as given
 unfoldable pub addedLength : ℕ → ℕ → ℕ
-addedLength type n = pick (eqb type 0) 0 n
+addedLength type n = cond (eqb type 0) 0 n
 
 unfoldable pub addedBytes : ℕ → List ℕ → List ℕ
-addedBytes type path = pick (eqb type 0) [] path
+addedBytes type path = cond (eqb type 0) [] path
 
 -- the length of all headers with a path of n bytes: it need not be a multiple of 4
 unfoldable pub headersLength : AddressHeader → ℕ → ℕ → ℕ
@@ -66,27 +65,21 @@ commonOf h =
       reserved = h .reserved;
     }
 
--- 01's order: 10, 3 for factor 0, 12 for a factor above 255, 11 for a payload above 65,535, 9 for a destination of another size
-unfoldable pub encoding : ScionHeaders → ℕ → ℕ → Encoded
-encoding h n size =
-    pick (commonFits (commonOf h))
-    (pick (eqb (h .«header_length_factor») 0) (Refused InvalidHeaderLength)
-    (pick (ltb 255 (h .«header_length_factor»)) (Refused HeaderTooLarge)
-    (pick (ltb 65535 (h .«payload_length»)) (Refused PayloadTooLarge)
-    (pick (eqb size (headersLength (h .address) (h .«path_type») n)) Done (Refused InadequateBufferSize)))))
-    (Refused NumberTooWide)
-
 -- what is written
 unfoldable pub headerBytes : ScionHeaders → List ℕ → List ℕ
 headerBytes h path = commonBytes (commonOf h) ++ (addressBytes (h .address) ++ addedBytes (h .«path_type») path)
 
--- WHAT THE STEPS INSIDE A CALL ASK
+-- what a destination of this size then holds; 01's order: a number too wide, factor 0, factor above 255, payload above 65,535, another size
+unfoldable pub writeHeaders : ScionHeaders → List ℕ → ℕ → Result EncodeError (List ℕ)
+writeHeaders h path size = do
+  require (commonFits (commonOf h)) NumberTooWide
+  require (not (eqb (h .«header_length_factor») 0)) InvalidHeaderLength
+  require (leb (h .«header_length_factor») 255) HeaderTooLarge
+  require (leb (h .«payload_length») 65535) PayloadTooLarge
+  require (eqb size (headersLength (h .address) (h .«path_type») (length path))) InadequateBufferSize
+  ok (headerBytes h path)
 
 -- factor and payload length fit their fields
 pub record Narrow (h : ScionHeaders) : Type 0 where
   pub factor : h .«header_length_factor» ≤ 255
   pub payload : h .«payload_length» ≤ 65535
-
--- headers that the tests let through
-pub record Writable (h : ScionHeaders) (n size : ℕ) : Type 0 where
-  pub done : encoding h n size ≡ Done

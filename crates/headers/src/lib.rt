@@ -1,19 +1,21 @@
 // All headers of a packet, put together and written.
-use address_header::AddressHeader;
-use address_header_encoding::WireAddress;
-use common_header::CommonHeader;
-use common_header_encoding::error::EncodeError;
-use common_header_encoding::error::Encoded;
-use common_header_encoding::fields_fit;
+use packet_address_header::AddressHeader;
+use packet_address_header::WireAddress;
+use packet_common_header::CommonHeader;
+use packet_common_header::fields_fit;
+use path_error::EncodeError;
+use path_error::Encoded;
 use wire_encoding::write::put_slice;
 ghost use mathlib.Core.Path.{_≡_};
 ghost use Prim.Native.Nat.{_+_, _≤_};
 ghost use lib.Dec.{eqb};
 ghost use lib.ListN.{length};
 ghost use lib.Seq.{sets};
-ghost use Rattle.common_header_encoding.specs.Encoding.{encoded, commonEncoding, commonBytes};
-ghost use Rattle.address_header_encoding.specs.Encoding.{onWire};
-ghost use Rattle.common_header_encoding.specs.declared.error.Encoded.the-variants.{Done};
+ghost use Rattle.wire_encoding.specs.Result.{orElse};
+ghost use Rattle.path_error.specs.Errors.{encodedOf};
+ghost use Rattle.packet_common_header.specs.CommonHeader.{commonBytes, writeCommon};
+ghost use Rattle.packet_address_header.specs.AddressHeader.{onWire};
+ghost use Rattle.path_error.specs.declared.Encoded.the-variants.{Done};
 ghost use Rattle.headers.specs.Headers as spec;
 
 // The headers of a packet but for its path, which stands beside them. The host kinds are the hosts' own. Factor and payload
@@ -52,10 +54,10 @@ fn fills(fixed: usize, added: usize, size: usize) -> bool
 
 // Writes a common header to the first bytes.
 fn put_common(header: CommonHeader, dst: &mut [u8])
-    requires { ⌜ (commonEncoding header 12 ≡ Done) × (12 ≤ length (now dst)) ⌝ }
+    requires { ⌜ (encodedOf (writeCommon header 12) ≡ Done) × (12 ≤ length (now dst)) ⌝ }
     ensures { λ _. ⌜ now (dst .exit) ≡ sets (now (dst .entry)) 0 (commonBytes header) ⌝ }
 {
-    common_header_encoding::encode_to(header, &mut dst[0..CommonHeader::LENGTH]);
+    header.encode_to(&mut dst[0..CommonHeader::LENGTH]);
 }
 
 impl ScionHeaders {
@@ -116,10 +118,10 @@ impl ScionHeaders {
         }
     }
 
-    // Whether the headers can be written with a path of `path_len` bytes to `size` bytes; `wire` is the address header.
-    fn check(self, wire: WireAddress, path_len: usize, size: usize) -> Encoded
+    // Whether the headers can be written with the path to `size` bytes; `wire` is the address header.
+    fn check(self, wire: WireAddress, path: &[u8], size: usize) -> Encoded
         requires { ⌜ wire ≡ onWire (self .address) ⌝ }
-        ensures { λ r. ⌜ r ≡ spec.encoding self «path_len» size ⌝ }
+        ensures { λ r. ⌜ r ≡ encodedOf (spec.writeHeaders self (now (path .entry)) size) ⌝ }
     {
         if !fields_fit(
             self.version,
@@ -139,7 +141,7 @@ impl ScionHeaders {
             return Encoded::Refused(EncodeError::PayloadTooLarge);
         }
         let fixed = CommonHeader::LENGTH + wire.encoded_length();
-        let added = path_length(self.path_type, path_len);
+        let added = path_length(self.path_type, path.len());
         if fills(fixed, added, size) {
             return Encoded::Done;
         }
@@ -148,7 +150,7 @@ impl ScionHeaders {
 
     // Writes the headers and the path after them, which fill the destination; `wire` is the address header.
     fn put(self, wire: WireAddress, path: &[u8], dst: &mut [u8])
-        requires { ⌜ spec.Writable self (length (now path)) (length (now dst)) × (wire ≡ onWire (self .address)) ⌝ }
+        requires { ⌜ (encodedOf (spec.writeHeaders self (now path) (length (now dst))) ≡ Done) × (wire ≡ onWire (self .address)) ⌝ }
         ensures { λ _. ⌜ now (dst .exit) ≡ spec.headerBytes self (now (path .entry)) ⌝ }
     {
         let common = self.common(wire);
@@ -161,13 +163,11 @@ impl ScionHeaders {
 
     // Writes the headers and the path to `dst`, or leaves it as it is.
     pub fn encode_to(self, path: &[u8], dst: &mut [u8]) -> Encoded
-        ensures { λ r. ⌜ r ≡ spec.encoding self (length (now (path .entry))) (length (now (dst .entry))) ⌝ }
-        ensures { λ _.
-            ⌜ now (dst .exit)
-            ≡ encoded (spec.encoding self (length (now (path .entry))) (length (now (dst .entry)))) (spec.headerBytes self (now (path .entry))) (now (dst .entry)) ⌝ }
+        ensures { λ r. ⌜ r ≡ encodedOf (spec.writeHeaders self (now (path .entry)) (length (now (dst .entry)))) ⌝ }
+        ensures { λ _. ⌜ now (dst .exit) ≡ orElse (spec.writeHeaders self (now (path .entry)) (length (now (dst .entry)))) (now (dst .entry)) ⌝ }
     {
-        let wire = address_header_encoding::on_wire(self.address);
-        match self.check(wire, path.len(), dst.len()) {
+        let wire = self.address.on_wire();
+        match self.check(wire, path, dst.len()) {
             Encoded::Done => {
                 self.put(wire, path, dst);
                 Encoded::Done

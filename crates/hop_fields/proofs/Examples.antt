@@ -3,7 +3,7 @@
 use Prim.Native.Nat.{ℕ}
 use mathlib.Core.Path.{_≡_, refl}
 use mathlib.Core.List.{List, [], _∷_, _++_}
-use Rattle.path_error.specs.Errors.{answerNumber}
+use Rattle.path_error.specs.Errors.{answerOf, answerNumber}
 use Rattle.path_fields.specs.Fields.{hopFieldAt, zeroHopField, newHopField}
 use Rattle.hop_fields.specs.Run as run
 use Rattle.hop_fields.specs.Reads.{front, back, given, left, leftBy}
@@ -37,6 +37,6 @@ pub one-read : run.ends a ≡ record { first = hopFieldAt a 0; last = zeroHopFie
 unfolding run.first run.last run.endsOf run.ends newHopField
 one-read = refl
 
-pub thirteen-bytes : (answerNumber (run.answer (0xFF ∷ a)) ≡ 9) × ((run.whole (0xFF ∷ a) ≡ []) × (answerNumber (run.answer a) ≡ 0))
-unfolding run.answer run.whole
+pub thirteen-bytes : (answerNumber (answerOf (run.runOf (0xFF ∷ a))) ≡ 9) × ((run.whole (0xFF ∷ a) ≡ []) × (answerNumber (answerOf (run.runOf a)) ≡ 0))
+unfolding run.runOf run.whole
 thirteen-bytes = (refl, (refl, refl))

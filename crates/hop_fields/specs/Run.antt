@@ -1,23 +1,25 @@
 -- A run of hop fields, 12 bytes each: what a read at either end gives and what it leaves.
 use Prim.Native.Nat.{ℕ, zero, suc, _*_, _-_, _/_, _%_}
+use mathlib.Core.Bool.{cond}
 use mathlib.Core.List.{List, [], _∷_}
 use lib.ListN.{length, take, drop}
 use lib.Dec.{ltb, eqb}
-use Rattle.wire_encoding.specs.Choice.{pick}
+use Rattle.wire_encoding.specs.Result.{Result, ok, require, _>>_, orElse}
 use Rattle.wire_encoding.specs.BigEndian.{part}
 use Rattle.path_fields.specs.Fields.{newHopField}
-use Rattle.path_error.specs.declared.Answer.{Answer}
-use Rattle.path_error.specs.declared.Answer.the-variants.{Accepted, Refused}
+use Rattle.path_error.specs.declared.PathError.{PathError}
 use Rattle.path_error.specs.declared.PathError.the-variants.{InadequateBufferSize}
 use Rattle.hop_fields.specs.declared.view.Ends.{Ends}
 
--- whether bytes are a run: 9 where their number is no multiple of 12
-unfoldable pub answer : List ℕ → Answer
-answer bytes = pick (eqb (length bytes % 12) 0) Accepted (Refused InadequateBufferSize)
+-- bytes that are a run: 9 where their number is no multiple of 12
+unfoldable pub runOf : List ℕ → Result PathError (List ℕ)
+runOf bytes = do
+  require (eqb (length bytes % 12) 0) InadequateBufferSize
+  ok bytes
 
--- the run; nothing where the bytes are refused
+-- nothing where they are refused
 unfoldable pub whole : List ℕ → List ℕ
-whole bytes = pick (eqb (length bytes % 12) 0) bytes []
+whole bytes = orElse (runOf bytes) []
 
 -- how many hop fields a run has
 abbrev pub count : List ℕ → ℕ
@@ -25,14 +27,14 @@ count run = length run / 12
 
 -- a read at the front: the hop field, nothing where none is left; and what is left
 unfoldable pub first : List ℕ → List ℕ
-first run = pick (ltb (length run) 12) [] (take 12 run)
+first run = cond (ltb (length run) 12) [] (take 12 run)
 
 abbrev pub afterFirst : List ℕ → List ℕ
 afterFirst run = drop 12 run
 
 -- a read at the back
 unfoldable pub last : List ℕ → List ℕ
-last run = pick (ltb (length run) 12) [] (drop (length run - 12) run)
+last run = cond (ltb (length run) 12) [] (drop (length run - 12) run)
 
 abbrev pub beforeLast : List ℕ → List ℕ
 beforeLast run = take (length run - 12) run

@@ -3,11 +3,12 @@ use path_error::Answer;
 use path_error::PathError;
 use path_fields::HopField;
 ghost use mathlib.Core.Path.{_≡_};
+ghost use Rattle.path_error.specs.Errors.{answerOf};
 ghost use Rattle.hop_fields.specs.Run as spec;
 
 // Whether bytes are a run of hop fields: their number has to be a multiple of 12.
 pub fn check(bytes: &[u8]) -> Answer
-    ensures { λ r. ⌜ r ≡ spec.answer (now (bytes .entry)) ⌝ }
+    ensures { λ r. ⌜ r ≡ answerOf (spec.runOf (now (bytes .entry))) ⌝ }
 {
     if bytes.len() % HopField::LENGTH == 0 {
         return Answer::Accepted;

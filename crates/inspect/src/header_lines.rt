@@ -2,10 +2,10 @@
 use crate::text;
 use address::host::HostAddr;
 use address::ia::IsdAsn;
-use address_header::AddressHeader;
-use address_header::HostAddress;
-use address_header::MaybeEncoded;
-use common_header::CommonHeader;
+use packet_address_header::AddressHeader;
+use packet_address_header::HostAddress;
+use packet_address_header::MaybeEncoded;
+use packet_common_header::CommonHeader;
 
 // What a path type means.
 fn path_type(path_type: u8) {

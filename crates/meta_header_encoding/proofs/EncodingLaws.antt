@@ -1,24 +1,18 @@
 -- Laws of a meta header that is written: its bits, and that reading and writing one undo each other.
 -- Assumes nothing.
 use Prim.Native.Nat.{ℕ, _+_, _*_, _/_, _%_, _^_, _<_}
-use mathlib.Core.Path.{_≡_, refl, sym, _∙_}
-use mathlib.Core.Bool.{Bool, true, false}
+use mathlib.Core.Path.{_≡_, refl, sym}
+use mathlib.Core.Bool.{true, false, and-eq-true-iff}
 use mathlib.Core.List.{List, [], _∷_}
 use native.Mathlib.Omega.{arith}
 use lib.ListN.{length, getD}
-use borrow.Author.Tests.{eq-eqb, ne-eqb, ltb-true}
-use Rattle.wire_encoding.specs.Choice.{pick, value, refused}
-use Rattle.wire_encoding.specs.BigEndian.{bytesOf, placed}
-use Rattle.wire_encoding.proofs.Numbers.{length-bytesOf}
-use Rattle.wire_encoding.proofs.Writes.{placed-whole}
+use borrow.Author.Tests.{eq-eqb, ltb-true}
+use Rattle.wire_encoding.specs.Result.{ok, refused}
+use Rattle.wire_encoding.proofs.Results.{held, unmet}
+use Rattle.wire_encoding.specs.BigEndian.{bytesOf}
 use Rattle.path_meta_header.specs.declared.PathMetaHeader.{PathMetaHeader}
 use Rattle.path_meta_header.specs.MetaHeader.{nthField, metaOf, segmentLength}
-use Rattle.meta_header_encoding.specs.Encoding.{metaFits, wordOf, asWord, metaEncoding, metaEncoded}
-
--- a chain of tests that came out true: each did
-both : (b x : Bool) → pick b x false ≡ true → (b ≡ true) × (x ≡ true)
-both true x h = (refl, h)
-both false x h = let z : _≡_ {A = Bool} true false = cc in absurd (let q : _≡_ {A = ℕ} 0 1 = cc in omega arith)
+use Rattle.meta_header_encoding.specs.Encoding.{metaFits, wordOf, asWord, writeMeta}
 
 -- numbers that fit their fields
 pub record Fitting (m : PathMetaHeader) : Type 0 where
@@ -32,18 +26,18 @@ pub record Fitting (m : PathMetaHeader) : Type 0 where
 pub fitting : (m : PathMetaHeader) → metaFits m ≡ true → Fitting m
 unfolding metaFits
 fitting m e =
-    let a = both _ _ e in
-    let b = both _ _ (a .1) in
-    let d = both _ _ (b .1) in
-    let f = both _ _ (d .1) in
-    let g = both _ _ (f .1) in
+    let five = and-eq-true-iff _ _ .0 e in
+    let four = and-eq-true-iff _ _ .0 (five .0) in
+    let three = and-eq-true-iff _ _ .0 (four .0) in
+    let two = and-eq-true-iff _ _ .0 (three .0) in
+    let one = and-eq-true-iff _ _ .0 (two .0) in
     record {
-      info = ltb-true (m .«current_info_field») 4 (a .0);
-      hop = ltb-true (m .«current_hop_field») 64 (b .0);
-      rsv = ltb-true (m .reserved) 64 (d .0);
-      first = ltb-true (segmentLength m 0) 64 (f .0);
-      second = ltb-true (segmentLength m 1) 64 (g .0);
-      third = ltb-true (segmentLength m 2) 64 (g .1);
+      info = ltb-true (m .«current_info_field») 4 (one .0);
+      hop = ltb-true (m .«current_hop_field») 64 (one .1);
+      rsv = ltb-true (m .reserved) 64 (two .1);
+      first = ltb-true (segmentLength m 0) 64 (three .1);
+      second = ltb-true (segmentLength m 1) 64 (four .1);
+      third = ltb-true (segmentLength m 2) 64 (five .1);
     }
 
 -- a header that fits is below 2 ^ 32
@@ -88,33 +82,15 @@ unfolding metaOf nthField wordOf
 word-back w h = rw (next w h .0, next w h .1, middle w .0, middle w .1, last w .0, last w .1)
 
 -- what `as_u32`'s answer says of the header
-pub word-is : (m : PathMetaHeader) {n : ℕ} → value n ≡ asWord m → (metaFits m ≡ true) × (n ≡ wordOf m)
+pub word-is : (m : PathMetaHeader) {n : ℕ} → ok n ≡ asWord m → (metaFits m ≡ true) × (n ≡ wordOf m)
 unfolding asWord
-word-is m {n} e = go (metaFits m) e
-  where
-    go : (t : Bool) → value n ≡ pick t (value (wordOf m)) (refused 10) → (t ≡ true) × (n ≡ wordOf m)
-    go true e = (refl, cc)
-    go false e = let z : _≡_ {A = ℕ} 0 1 = cc in absurd (omega arith)
+word-is m e = let r = held (metaFits m) 10 _ (sym e) in (r .0, cc)
 
 pub word-wide : (m : PathMetaHeader) → refused 10 ≡ asWord m → metaFits m ≡ false
 unfolding asWord
-word-wide m e = go (metaFits m) e
-  where
-    go : (t : Bool) → refused 10 ≡ pick t (value (wordOf m)) (refused 10) → t ≡ false
-    go true e = let z : _≡_ {A = ℕ} 0 1 = cc in absurd (omega arith)
-    go false e = refl
+word-wide m e = unmet (metaFits m) 10 (wordOf m) (sym e)
 
--- the three answers of the encoder, each with what the destination then holds
-pub encoded-done : (m : PathMetaHeader) (dst : List ℕ) {now : List ℕ} → metaFits m ≡ true → length dst ≡ 4
-    → now ≡ placed dst 0 (bytesOf 4 (wordOf m)) → (0 ≡ metaEncoding m dst) × (now ≡ metaEncoded m dst)
-unfolding metaEncoding metaEncoded
-encoded-done m dst f l e =
-    rw (f, eq-eqb (length dst) 4 l) (refl, e ∙ placed-whole (bytesOf 4 (wordOf m)) dst (length-bytesOf 4 (wordOf m) ∙ sym l))
-
-pub encoded-wide : (m : PathMetaHeader) (dst : List ℕ) → metaFits m ≡ false → (10 ≡ metaEncoding m dst) × (dst ≡ metaEncoded m dst)
-unfolding metaEncoding metaEncoded
-encoded-wide m dst f = rw f (refl, refl)
-
-pub encoded-size : (m : PathMetaHeader) (dst : List ℕ) → metaFits m ≡ true → (length dst ≡ 4 → ⊥) → (9 ≡ metaEncoding m dst) × (dst ≡ metaEncoded m dst)
-unfolding metaEncoding metaEncoded
-encoded-size m dst f l = rw (f, ne-eqb (length dst) 4 l) (refl, refl)
+-- a header that fits is written to four bytes
+pub meta-written : (m : PathMetaHeader) (n : ℕ) → metaFits m ≡ true → n ≡ 4 → writeMeta m n ≡ ok (bytesOf 4 (wordOf m))
+unfolding writeMeta
+meta-written m n f l = rw (f, eq-eqb n 4 l)

@@ -1,21 +1,23 @@
 -- A meta header that is written is read again, and one that is read and written again gives the bytes that were read.
 -- Assumes nothing.
 use Prim.Native.Nat.{ℕ, _/_, _%_, _^_, _<_, _≤_}
-use mathlib.Core.Path.{_≡_, sym, ap, _∙_}
+use mathlib.Core.Path.{_≡_, refl, sym, ap, _∙_}
 use mathlib.Core.Bool.{true}
 use mathlib.Core.List.{List, [], append-nil}
 use native.Mathlib.Nat.{mod-eq-of-lt}
 use native.Mathlib.Omega.{arith}
 use lib.ListN.{length}
-use borrow.Author.Tests.{eq-eqb, lt-ltb}
-use Rattle.wire_encoding.specs.Choice.{value}
-use Rattle.wire_encoding.specs.BigEndian.{bigEndian, bytesOf, part}
+use lib.Dec.{eqb}
+use borrow.Author.Tests.{lt-ltb, le-leb}
+use Rattle.wire_encoding.specs.Result.{ok}
+use Rattle.wire_encoding.proofs.Results.{same-value, held}
+use Rattle.wire_encoding.specs.BigEndian.{bigEndian, bytesOf, part, room}
 use Rattle.wire_encoding.proofs.Parts.{Bytes}
-use Rattle.wire_encoding.proofs.Numbers.{below, length-bytesOf, read-bytesOf, bytes-read, found}
+use Rattle.wire_encoding.proofs.Numbers.{below, length-bytesOf, read-bytesOf, bytes-read}
 use Rattle.path_meta_header.specs.declared.PathMetaHeader.{PathMetaHeader}
-use Rattle.path_meta_header.specs.MetaHeader.{nthField, metaOf, checked, settled, metaRead, readMeta}
-use Rattle.meta_header_encoding.specs.Encoding.{metaFits, wordOf, metaEncoded}
-use Rattle.meta_header_encoding.proofs.EncodingLaws.{fitting, word-below, meta-back, word-back}
+use Rattle.path_meta_header.specs.MetaHeader.{nthField, metaOf, checked, readMeta}
+use Rattle.meta_header_encoding.specs.Encoding.{metaFits, wordOf, writeMeta}
+use Rattle.meta_header_encoding.proofs.EncodingLaws.{fitting, word-below, meta-back, word-back, meta-written}
 
 -- the four bytes of a word spell it
 spelt : (word : ℕ) → word < 2 ^ 32 → bigEndian 4 (bytesOf 4 word) 0 ≡ word
@@ -24,20 +26,17 @@ spelt word h =
     ∙ read-bytesOf 4 word [] []
     ∙ mod-eq-of-lt h
 
--- reading what was written: the header, as its rules settle it
-pub decode-encoded : (m : PathMetaHeader) (dst : List ℕ) → length (m .«segment_lengths») ≡ 3 → metaFits m ≡ true → length dst ≡ 4
-    → readMeta (metaEncoded m dst) ≡ settled (checked m) m
-unfolding readMeta metaRead metaEncoded
-decode-encoded m dst lengths fits size =
+-- reading what was written: the header, by its rules
+pub decode-encoded : (m : PathMetaHeader) (n : ℕ) {written : List ℕ} → length (m .«segment_lengths») ≡ 3 → writeMeta m n ≡ ok written
+    → readMeta written ≡ checked m
+unfolding readMeta room writeMeta
+decode-encoded m n lengths h =
+    let fits = held (metaFits m) _ _ h in
+    let size = held (eqb n 4) _ _ (fits .1) in
     let word : ℕ = wordOf m in
-    let small : word < 2 ^ 32 = word-below m (fitting m fits) in
+    let small : word < 2 ^ 32 = word-below m (fitting m (fits .0)) in
     let long : 4 ≤ length (bytesOf 4 word) = omega (arith, length-bytesOf 4 word) in
-    rw (fits, eq-eqb (length dst) 4 size)
-    (ap metaRead (sym (found 4 (bytesOf 4 word) 0 long {n = word} (sym (spelt word small))))
-    ∙ read-word m (meta-back m lengths (fitting m fits)))
-  where
-    read-word : (m : PathMetaHeader) → metaOf (wordOf m) ≡ m → metaRead (value (wordOf m)) ≡ settled (checked m) m
-    read-word m e = ap (λ (h : PathMetaHeader). settled (checked h) h) e
+    rw (← same-value (size .1)) (rw (le-leb 4 (length (bytesOf 4 word)) long, spelt word small, meta-back m lengths (fitting m (fits .0))))
 
 -- a word of 32 bits makes a header whose numbers fit their fields
 fits-word : (word : ℕ) → word < 2 ^ 32 → metaFits (metaOf word) ≡ true
@@ -53,10 +52,8 @@ fits-word word h =
     )
 
 -- writing what was read: the bytes that were read
-pub encode-decoded : (bytes dst : List ℕ) → Bytes bytes → 4 ≤ length bytes → length dst ≡ 4
-    → metaEncoded (metaOf (bigEndian 4 bytes 0)) dst ≡ part 0 4 bytes
-unfolding metaEncoded
-encode-decoded bytes dst b long size =
+pub encode-decoded : (bytes : List ℕ) → Bytes bytes → 4 ≤ length bytes → writeMeta (metaOf (bigEndian 4 bytes 0)) 4 ≡ ok (part 0 4 bytes)
+encode-decoded bytes b long =
     let word : ℕ = bigEndian 4 bytes 0 in
     let small : word < 2 ^ 32 = omega (arith, below bytes b 0 4) in
-    rw (fits-word word small, eq-eqb (length dst) 4 size) (ap (bytesOf 4) (word-back word small) ∙ bytes-read 4 bytes b 0 (omega arith))
+    meta-written (metaOf word) 4 (fits-word word small) refl ∙ ap ok (ap (bytesOf 4) (word-back word small) ∙ bytes-read 4 bytes b 0 (omega arith))

@@ -1,16 +1,15 @@
 -- A meta header written: the draft's six fields as one number, and as bytes.
 use Prim.Native.Nat.{ℕ, _+_, _*_, _^_}
 use mathlib.Core.List.{List}
-use mathlib.Core.Bool.{Bool, false}
-use lib.ListN.{length}
+use mathlib.Core.Bool.{Bool, _&&_}
 use lib.Dec.{ltb, eqb}
-use Rattle.wire_encoding.specs.Choice.{pick, Answer, value, refused}
+use Rattle.wire_encoding.specs.Result.{Result, ok, refused, require, _>>_}
 use Rattle.wire_encoding.specs.BigEndian.{bytesOf}
+use Rattle.path_error.specs.declared.EncodeError.{EncodeError}
+use Rattle.path_error.specs.declared.EncodeError.the-variants.{NumberTooWide, InadequateBufferSize}
 use Rattle.path_meta_header.specs.declared.PathMetaHeader.{PathMetaHeader}
 use Rattle.meta_header_encoding.specs.declared.Word.{Word}
 use Rattle.meta_header_encoding.specs.declared.Word.the-variants as word
-use Rattle.meta_header_encoding.specs.declared.Encoded.{Encoded}
-use Rattle.meta_header_encoding.specs.declared.Encoded.the-variants as written
 use Rattle.path_meta_header.specs.MetaHeader.{segmentLength}
 
 -- whether a number has at most `bits` bits
@@ -20,13 +19,8 @@ fits bits n = ltb n (2 ^ bits)
 -- whether each number fits its field
 unfoldable pub metaFits : PathMetaHeader → Bool
 metaFits m =
-    pick (fits 2 (m .«current_info_field»))
-    (pick (fits 6 (m .«current_hop_field»))
-    (pick (fits 6 (m .reserved))
-    (pick (fits 6 (segmentLength m 0)) (pick (fits 6 (segmentLength m 1)) (fits 6 (segmentLength m 2)) false) false)
-    false)
-    false)
-    false
+    fits 2 (m .«current_info_field») && fits 6 (m .«current_hop_field») && fits 6 (m .reserved)
+    && fits 6 (segmentLength m 0) && fits 6 (segmentLength m 1) && fits 6 (segmentLength m 2)
 
 -- the word of a header
 unfoldable pub wordOf : PathMetaHeader → ℕ
@@ -35,21 +29,18 @@ wordOf m =
     + segmentLength m 2
 
 -- the word, or 10 for a number wider than its field
-unfoldable pub asWord : PathMetaHeader → Answer
-asWord m = pick (metaFits m) (value (wordOf m)) (refused 10)
+unfoldable pub asWord : PathMetaHeader → Result ℕ ℕ
+asWord m = do
+  require (metaFits m) 10
+  ok (wordOf m)
 
-abbrev pub answerWord : Word → Answer
-answerWord (word.Value n) = value n
+abbrev pub answerWord : Word → Result ℕ ℕ
+answerWord (word.Value n) = ok n
 answerWord word.TooWide = refused 10
 
-abbrev pub metaEncodedNumber : Encoded → ℕ
-metaEncodedNumber written.Done = 0
-metaEncodedNumber written.TooWide = 10
-metaEncodedNumber written.InadequateBufferSize = 9
-
--- writing a header: 10, then 9 for a destination that is not of 4 bytes; the destination is then the header's bytes, or what it was
-unfoldable pub metaEncoding : PathMetaHeader → List ℕ → ℕ
-metaEncoding m dst = pick (metaFits m) (pick (eqb (length dst) 4) 0 9) 10
-
-unfoldable pub metaEncoded : PathMetaHeader → List ℕ → List ℕ
-metaEncoded m dst = pick (metaFits m) (pick (eqb (length dst) 4) (bytesOf 4 (wordOf m)) dst) dst
+-- what a destination of n bytes then holds: a number too wide, another size
+unfoldable pub writeMeta : PathMetaHeader → ℕ → Result EncodeError (List ℕ)
+writeMeta m n = do
+  require (metaFits m) NumberTooWide
+  require (eqb n 4) InadequateBufferSize
+  ok (bytesOf 4 (wordOf m))

@@ -3,10 +3,15 @@ use bits::bounded::NewU2;
 use bits::bounded::NewU6;
 use bits::bounded::U2;
 use bits::bounded::U6;
+use path_error::EncodeError;
+use path_error::Encoded;
 use path_meta_header::PathMetaHeader;
 use wire_encoding::read::wide;
 use wire_encoding::write::put_u32;
 ghost use mathlib.Core.Path.{_≡_};
+ghost use lib.ListN.{length};
+ghost use Rattle.wire_encoding.specs.Result.{orElse};
+ghost use Rattle.path_error.specs.Errors.{encodedOf};
 ghost use Rattle.meta_header_encoding.specs.Encoding as spec;
 
 // A 2-bit index into the info fields.
@@ -22,13 +27,6 @@ pub type PathMetaReserved = U6;
 pub enum Word {
     Value(u32),
     TooWide,
-}
-
-// Whether a header was written: 0, 10 or 9 of document 01.
-pub enum Encoded {
-    Done,
-    TooWide,
-    InadequateBufferSize,
 }
 
 // Whether a number has at most 2 bits.
@@ -95,8 +93,8 @@ pub fn as_u32(meta_header: PathMetaHeader) -> Word
 
 // Writes the header to a destination of exactly 4 bytes.
 pub fn encode_to(meta_header: PathMetaHeader, dst: &mut [u8]) -> Encoded
-    ensures { λ r. ⌜ spec.metaEncodedNumber r ≡ spec.metaEncoding «meta_header» (now (dst .entry)) ⌝ }
-    ensures { λ _. ⌜ now (dst .exit) ≡ spec.metaEncoded «meta_header» (now (dst .entry)) ⌝ }
+    ensures { λ r. ⌜ r ≡ encodedOf (spec.writeMeta «meta_header» (length (now (dst .entry)))) ⌝ }
+    ensures { λ _. ⌜ now (dst .exit) ≡ orElse (spec.writeMeta «meta_header» (length (now (dst .entry)))) (now (dst .entry)) ⌝ }
 {
     match as_u32(meta_header) {
         Word::Value(number) => {
@@ -104,8 +102,8 @@ pub fn encode_to(meta_header: PathMetaHeader, dst: &mut [u8]) -> Encoded
                 put_u32(dst, 0, number);
                 return Encoded::Done;
             }
-            Encoded::InadequateBufferSize
+            Encoded::Refused(EncodeError::InadequateBufferSize)
         }
-        Word::TooWide => Encoded::TooWide,
+        Word::TooWide => Encoded::Refused(EncodeError::NumberTooWide),
     }
 }

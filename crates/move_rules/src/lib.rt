@@ -1,6 +1,7 @@
 // What moves ask of a path, and whose code a move takes in. Move, owner and spared are document 01's words.
 use path::dataplane::DataplanePath;
 use path::dataplane::PathAnswer;
+use path::standard::StandardPath;
 use path_error::Answer;
 use path_error::PathError;
 use path_fields::InfoField;
@@ -10,6 +11,7 @@ ghost use mathlib.Core.Path.{_≡_};
 ghost use Prim.Native.Nat.{_+_, _≤_};
 ghost use lib.ListN.{length};
 ghost use Rattle.path_meta_header.specs.MetaHeader.{pathLength, infoStart};
+ghost use Rattle.path.specs.Dataplane.{pathAnswer};
 ghost use Rattle.move_rules.specs.Rules as spec;
 
 // The number of the first `count` info fields that have peering set.
@@ -27,38 +29,44 @@ fn peering_count(bytes: &[u8], count: usize) -> usize
     sum
 }
 
-// Whether a path that was read can be moved: 13 for too many hop fields, 14 for peering that is not on both of two segments.
-fn state(bytes: &[u8], meta_header: PathMetaHeader) -> Answer
+// Whether peering is on no info field, or on both of two.
+fn peering_allowed(bytes: &[u8], meta_header: PathMetaHeader) -> bool
     requires { ⌜ pathLength «meta_header» ≤ length (now bytes) ⌝ }
-    ensures { λ r. ⌜ r ≡ spec.stateOf (now (bytes .entry)) «meta_header» ⌝ }
+    ensures { λ r. ⌜ r ≡ spec.peeringAllowed (now (bytes .entry)) «meta_header» ⌝ }
 {
-    if 64 < meta_header.hop_fields_count() {
-        return Answer::Refused(PathError::TooManyHopFields);
-    }
     let count = meta_header.info_fields_count();
     let peering = peering_count(bytes, count);
     if peering == 0 {
-        return Answer::Accepted;
+        return true;
     }
     if count == 2 {
-        if peering == 2 {
-            return Answer::Accepted;
-        }
+        return peering == 2;
     }
-    Answer::Refused(PathError::PeeringNotOnBoth)
+    false
+}
+
+// Whether a path that was read can be moved: 13 for too many hop fields, 14 for peering that is not on both of two segments.
+fn state(bytes: &[u8], path: StandardPath) -> PathAnswer
+    requires { ⌜ pathLength (path .«meta_header») ≤ length (now bytes) ⌝ }
+    ensures { λ r. ⌜ r ≡ pathAnswer (spec.stateOf (now (bytes .entry)) (path .«meta_header»)) ⌝ }
+{
+    if 64 < path.meta_header.hop_fields_count() {
+        return PathAnswer::refused(PathError::TooManyHopFields);
+    }
+    if peering_allowed(bytes, path.meta_header) {
+        return PathAnswer::accepted(path);
+    }
+    PathAnswer::refused(PathError::PeeringNotOnBoth)
 }
 
 // Reading, 8 for every type but 1, then 13 and 14: where moves and walks begin.
 pub fn movable(path_type: u8, bytes: &[u8]) -> PathAnswer
-    ensures { λ r. ⌜ r ≡ spec.movableOf «path_type» (now (bytes .entry)) ⌝ }
+    ensures { λ r. ⌜ r ≡ pathAnswer (spec.movable «path_type» (now (bytes .entry))) ⌝ }
 {
     let read = DataplanePath::new(path_type).standard(bytes);
     let answer = read.answer;
     match answer {
-        Answer::Accepted => {
-            let found = state(bytes, read.path.meta_header);
-            PathAnswer::answered(found, read.path)
-        }
+        Answer::Accepted => state(bytes, read.path),
         Answer::Refused(error) => PathAnswer::refused(error),
     }
 }

@@ -4,7 +4,8 @@ use mathlib.Core.Path.{_≡_, refl}
 use mathlib.Core.List.{List, [], _∷_, map}
 use Prim.Native.Nat.{ℕ, _+_}
 use lib.ListN.{take}
-use Rattle.wire_encoding.specs.BigEndian.{bigEndian, bytesOf, numberAt, room}
+use Rattle.wire_encoding.specs.Result.{orElse}
+use Rattle.wire_encoding.specs.BigEndian.{bigEndian, bytesOf, room}
 use Rattle.path_error.specs.Errors.{answerNumber}
 use Rattle.path_meta_header.specs.MetaHeader as meta
 use Rattle.path.specs.Standard as standard
@@ -34,12 +35,12 @@ unpeered = 0x00 ∷ 0x00 ∷ 0x30 ∷ 0xC0 ∷ 0x00 ∷ 0x00 ∷ 0x11 ∷ 0x11 �
 unfoldable pub met : List ℕ → ℕ → ℕ
 met bytes n =
     let there = moves.walked 1 bytes n in
-    bigEndian 2 there (infoStart (meta.readMeta there .«meta_header» .«current_info_field») + 2)
+    bigEndian 2 there (infoStart (orElse (meta.readMeta there) (meta.metaOf 0) .«current_info_field») + 2)
 
 -- what a walk reports
 unfoldable pub reported : List ℕ → ℕ → List ℕ
 reported bytes limit =
-    let walk = moves.walkAnswer 1 bytes limit in
+    let walk = moves.walkAnswer 1 (moves.walk 1 bytes limit) in
     answerNumber (walk .answer) ∷ walk .moves ∷ walk .path .«meta_header» .«current_hop_field» ∷ []
 
 unfoldable pub steps : List ℕ
@@ -47,39 +48,36 @@ steps = 0 ∷ 1 ∷ 2 ∷ 3 ∷ 4 ∷ 5 ∷ []
 
 pub first-bytes : (take 8 (moves.moved 1 along) ≡ 0x01 ∷ 0x00 ∷ 0x20 ∷ 0x00 ∷ 0x01 ∷ 0x00 ∷ 0xB1 ∷ 0x1A ∷ [])
     × (take 8 (moves.moved 1 against) ≡ 0x01 ∷ 0x00 ∷ 0x20 ∷ 0x00 ∷ 0x00 ∷ 0x00 ∷ 0x1D ∷ 0xC1 ∷ [])
-unfolding along against bigEndian bytesOf numberAt room
+unfolding along against bigEndian bytesOf room
     meta.nthField meta.metaOf meta.infoFieldsCount meta.hopFieldsCount meta.segmentOf meta.pathLength meta.lengthsValid meta.infoValid meta.hopValid
-    meta.firstRefusal meta.checked meta.settled meta.metaRead meta.readMeta
-    standard.zeroPath standard.pathRefused standard.complete standard.readPath
-    dataplane.unread dataplane.standardRead dataplane.readDataplane dataplane.answerRefused dataplane.standardAnswer dataplane.standardOf
-    dataplane.carriedOut dataplane.onStandard dataplane.answered
-    rules.ownerOf rules.spared moves.changeInside moves.positionOf moves.moveFrom moves.atPosition moves.applied moves.movedMeta moves.moveBytes
-    rules.peerings rules.peeringAllowed rules.stateOf rules.movableOf rules.onMovable moves.notLast moves.moved
+    meta.checked meta.readMeta
+    standard.readPath
+    dataplane.readDataplane dataplane.standard
+    rules.ownerOf rules.spared moves.changeInside moves.positionOf moves.moveFrom moves.atPosition moves.applied moves.movedMeta moves.takesIn moves.moveBytes
+    rules.peerings rules.peeringAllowed rules.stateOf rules.movable moves.notLast moves.move moves.moved
 first-bytes = (refl, refl)
 
 pub accumulators-met : (map (met peered) steps ≡ 0x1111 ∷ 0xB01D ∷ 0xB01D ∷ 0x2222 ∷ 0x2222 ∷ 0x862D ∷ [])
     × ((map (met peeredOtherWay) steps ≡ 0x1111 ∷ 0xB11A ∷ 0x1016 ∷ 0x2222 ∷ 0x862D ∷ 0x233D ∷ [])
     × (map (met unpeered) steps ≡ 0x1111 ∷ 0xB01D ∷ 0x1210 ∷ 0x2222 ∷ 0x812C ∷ 0x2523 ∷ []))
-unfolding peered peeredOtherWay unpeered met steps bigEndian bytesOf numberAt room
+unfolding peered peeredOtherWay unpeered met steps bigEndian bytesOf room
     meta.nthField meta.metaOf meta.infoFieldsCount meta.hopFieldsCount meta.segmentOf meta.pathLength meta.lengthsValid meta.infoValid meta.hopValid
-    meta.firstRefusal meta.checked meta.settled meta.metaRead meta.readMeta
-    standard.zeroPath standard.pathRefused standard.complete standard.readPath
-    dataplane.unread dataplane.standardRead dataplane.readDataplane dataplane.answerRefused dataplane.standardAnswer dataplane.standardOf
-    dataplane.carriedOut dataplane.onStandard dataplane.answered
-    rules.ownerOf rules.spared moves.changeInside moves.positionOf moves.moveFrom moves.atPosition moves.applied moves.movedMeta moves.moveBytes
-    rules.peerings rules.peeringAllowed rules.stateOf rules.movableOf rules.onMovable moves.notLast moves.moved
-    moves.walkMoves moves.walkCount moves.walked
+    meta.checked meta.readMeta
+    standard.readPath
+    dataplane.readDataplane dataplane.standard
+    rules.ownerOf rules.spared moves.changeInside moves.positionOf moves.moveFrom moves.atPosition moves.applied moves.movedMeta moves.takesIn moves.moveBytes
+    rules.peerings rules.peeringAllowed rules.stateOf rules.movable moves.notLast moves.move moves.moved
+    moves.walkMoves moves.walk moves.walked
 accumulators-met = (refl, (refl, refl))
 
 pub walks-reported : map (reported peered) (0 ∷ 3 ∷ 5 ∷ 18446744073709551615 ∷ [])
     ≡ (0 ∷ 0 ∷ 0 ∷ []) ∷ (0 ∷ 3 ∷ 3 ∷ []) ∷ (0 ∷ 5 ∷ 5 ∷ []) ∷ (0 ∷ 5 ∷ 5 ∷ []) ∷ []
-unfolding peered reported bigEndian bytesOf numberAt room
+unfolding peered reported bigEndian bytesOf room
     meta.nthField meta.metaOf meta.infoFieldsCount meta.hopFieldsCount meta.segmentOf meta.pathLength meta.lengthsValid meta.infoValid meta.hopValid
-    meta.firstRefusal meta.checked meta.settled meta.metaRead meta.readMeta
-    standard.zeroPath standard.pathRefused standard.complete standard.readPath
-    dataplane.unread dataplane.standardRead dataplane.readDataplane dataplane.answerRefused dataplane.standardAnswer dataplane.standardOf
-    dataplane.carriedOut dataplane.onStandard dataplane.answered
-    rules.ownerOf rules.spared moves.changeInside moves.positionOf moves.moveFrom moves.atPosition moves.applied moves.movedMeta moves.moveBytes
-    rules.peerings rules.peeringAllowed rules.stateOf rules.movableOf rules.onMovable moves.notLast moves.moved
-    moves.walkMoves moves.walkCount moves.walked moves.noWalk moves.walkAnswer
+    meta.checked meta.readMeta
+    standard.readPath
+    dataplane.readDataplane dataplane.standard
+    rules.ownerOf rules.spared moves.changeInside moves.positionOf moves.moveFrom moves.atPosition moves.applied moves.movedMeta moves.takesIn moves.moveBytes
+    rules.peerings rules.peeringAllowed rules.stateOf rules.movable moves.notLast moves.move moves.moved
+    moves.walkMoves moves.walk moves.walked moves.walkAnswer
 walks-reported = refl

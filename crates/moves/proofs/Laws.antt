@@ -1,30 +1,29 @@
 -- A move leaves a path that can be moved.
 -- Assumes nothing.
 use Prim.Native.Nat.{ℕ, zero, suc, _+_, _*_, _/_, _%_, _^_, _≤_, _<_}
-use mathlib.Core.Path.{_≡_, refl, ap, _∙_}
-use mathlib.Core.Bool.{Bool, true, false}
+use mathlib.Core.Path.{_≡_, refl, sym, ap, _∙_}
+use mathlib.Core.Bool.{Bool, true, false, not, _&&_, cond}
 use mathlib.Core.List.{List}
 use native.Mathlib.Nat.{add-zero, add-suc}
 use native.Mathlib.Omega.{arith}
 use lib.Dec.{eqb}
-use lib.Bits.{bitXor}
-use lib.ListN.{length, getD, set, length-set}
-use lib.Seq.{length-sets, getD-set-same, getD-set-other}
+use lib.Bits.{bitXor, xor-zero-r}
+use lib.ListN.{length, take, getD, set, length-set}
+use lib.Seq.{sets, drop-set-lt, length-sets, getD-set-same, getD-set-other}
 use borrow.Author.Tests.{lt-ltb, eq-eqb}
-use Rattle.wire_encoding.specs.Choice.{pick}
+use Rattle.wire_encoding.specs.Result.{ok}
+use Rattle.wire_encoding.proofs.Results.{held, stepped, either}
 use Rattle.wire_encoding.specs.BigEndian.{bigEndian, bytesOf, placed}
-use Rattle.wire_encoding.proofs.Parts.{Bytes}
-use Rattle.wire_encoding.proofs.Numbers.{length-bytesOf}
+use Rattle.wire_encoding.proofs.Parts.{Bytes, sets-same}
+use Rattle.wire_encoding.proofs.Numbers.{length-bytesOf, bytes-read}
 use Rattle.wire_encoding.proofs.Writes.{placed-is}
 use Rattle.path_meta_header.specs.MetaHeader as meta
 use Rattle.path_meta_header.specs.declared.PathMetaHeader.{PathMetaHeader}
-use Rattle.path_error.specs.declared.Answer.{Answer}
-use Rattle.path_error.specs.declared.Answer.the-variants.{Accepted, Refused}
 use Rattle.path_meta_header.specs.MetaHeader.{infoStart}
-use Rattle.path.specs.Dataplane.{carriedOut}
-use Rattle.path.proofs.Reading.{Sound}
+use Rattle.path.specs.Dataplane.{standard}
+use Rattle.path.proofs.Reading.{Sound, standard-read}
 use Rattle.path.proofs.Links.{segment-below}
-use Rattle.move_rules.proofs.Known.{Known, movable-known}
+use Rattle.move_rules.proofs.Known.{Known, known}
 use Rattle.moves.specs.declared.Position.{Position}
 use Rattle.moves.specs.declared.Moved.{Moved}
 use Rattle.moves.specs.Moves as spec
@@ -120,14 +119,60 @@ module _ (bytes : List ℕ) (k : ℕ) (move : Moved) where
 
 pub length-moveBytes : (bytes : List ℕ) (m : PathMetaHeader) → length (spec.moveBytes bytes m) ≡ length bytes
 unfolding spec.moveBytes
-length-moveBytes bytes m = length-applied bytes (m .«current_info_field») (spec.moveFrom bytes m (spec.positionOf m))
+length-moveBytes bytes m = go (spec.takesIn bytes m (m .«current_info_field») (m .«current_hop_field»))
+  where
+    pointed : List ℕ
+    pointed = set bytes 0 (meta.segmentOf m (m .«current_hop_field» + 1) * 64 + (m .«current_hop_field» + 1))
+
+    length-pointed : length pointed ≡ length bytes
+    length-pointed = length-set bytes 0 _
+
+    taken : List ℕ
+    taken =
+        let k = m .«current_info_field» in
+        let code = spec.codeOf bytes m (rules.ownerOf (rules.flagsAt bytes k) (m .«current_hop_field»)) in
+        bytesOf 2 (bitXor (bigEndian 2 bytes (infoStart k + 2)) code)
+
+    go : (t : Bool) → length (cond t (sets pointed (infoStart (m .«current_info_field») + 2) taken) pointed) ≡ length bytes
+    go true = length-sets pointed _ taken ∙ length-pointed
+    go false = length-pointed
+
+-- an accumulator that no code is taken in stands XORed with 0
+pub move-applied : (bytes : List ℕ) (m : PathMetaHeader) → Bytes bytes → infoStart (m .«current_info_field») + 4 ≤ length bytes
+    → spec.moveBytes bytes m ≡ spec.applied bytes (m .«current_info_field») (spec.moveFrom bytes m (spec.positionOf m))
+unfolding spec.moveBytes spec.takesIn spec.changeInside spec.positionOf spec.moveFrom spec.applied
+move-applied bytes m b room =
+    go (eqb (meta.segmentOf m (m .«current_hop_field» + 1)) (m .«current_info_field»))
+    (rules.spared (rules.flagsAt bytes (m .«current_info_field»)) owner (meta.segmentLength m 0)) (spec.codeOf bytes m owner)
+  where
+    owner : ℕ
+    owner = rules.ownerOf (rules.flagsAt bytes (m .«current_info_field»)) (m .«current_hop_field»)
+
+    at : ℕ
+    at = infoStart (m .«current_info_field») + 2
+
+    byte : ℕ
+    byte = meta.segmentOf m (m .«current_hop_field» + 1) * 64 + (m .«current_hop_field» + 1)
+
+    kept : set bytes 0 byte ≡ sets (set bytes 0 byte) at (bytesOf 2 (bitXor (bigEndian 2 bytes at) 0))
+    kept =
+        sym (ap (λ (n : ℕ). sets (set bytes 0 byte) at (bytesOf 2 n)) (xor-zero-r (bigEndian 2 bytes at))
+        ∙ ap (sets (set bytes 0 byte) at) (bytes-read 2 bytes b at (omega arith) ∙ ap (take 2) (sym (drop-set-lt at bytes 0 byte (omega arith))))
+        ∙ sets-same at 2 (set bytes 0 byte) (simp length-set (omega arith)))
+
+    go : (inside free : Bool) (code : ℕ)
+        → cond (inside && not free) (sets (set bytes 0 byte) at (bytesOf 2 (bitXor (bigEndian 2 bytes at) code))) (set bytes 0 byte)
+        ≡ sets (set bytes 0 byte) at (bytesOf 2 (bitXor (bigEndian 2 bytes at) (cond inside (cond free 0 code) 0)))
+    go true true code = kept
+    go true false code = refl
+    go false free code = kept
 
 -- there are at most three info fields
 infos-few : (m : PathMetaHeader) → meta.infoFieldsCount m ≤ 3
 unfolding meta.infoFieldsCount
 infos-few m = go (eqb (meta.segmentLength m 0) 0) (eqb (meta.segmentLength m 1) 0) (eqb (meta.segmentLength m 2) 0)
   where
-    go : (x y z : Bool) → pick x 0 (pick y 1 (pick z 2 3)) ≤ 3
+    go : (x y z : Bool) → cond x 0 (cond y 1 (cond z 2 3)) ≤ 3
     go true y z = omega arith
     go false true z = omega arith
     go false false true = omega arith
@@ -144,7 +189,7 @@ pub record Standing (bytes : List ℕ) (m : PathMetaHeader) : Type 0 where
 
 module _ (bytes : List ℕ) (m : PathMetaHeader) (can : CanMove bytes m) where
   abbrev able : Known bytes m
-  able = movable-known bytes m (can .movable)
+  able = known 1 bytes (can .able)
 
   pub standing : Standing bytes m
   unfolding meta.pathLength
@@ -181,14 +226,15 @@ module _ (bytes : List ℕ) (m : PathMetaHeader) (can : CanMove bytes m) where
 
   -- the bytes after the move spell the header that it leaves
   word-moved : Bytes bytes → left ≡ meta.metaOf (bigEndian 4 after 0)
-  unfolding spec.movedMeta spec.moveBytes spec.moveFrom spec.positionOf
+  unfolding spec.movedMeta spec.moveFrom spec.positionOf
   word-moved b =
       let s = standing in
       let k = m .«current_info_field» in
+      let after = spec.applied bytes k move in
       let low : lowOf after ≡ lowOf bytes = low-kept bytes k move in
       let head : getD after 0 0 ≡ pointers (move .position) = first bytes k move (omega arith) in
       let old : m ≡ meta.metaOf (getD bytes 0 0 * 2 ^ 24 + lowOf bytes) = able .path .word ∙ ap meta.metaOf (first-byte bytes) in
-      rw (first-byte after, head, low)
+      rw (move-applied bytes m b (omega arith), first-byte after, head, low)
       (spelt (getD bytes 0 0) (lowOf bytes) m (move .position) (omega arith) (omega arith) (low-below bytes b) old)
 
   -- and are as many, with the same segments, and the same peering
@@ -210,9 +256,11 @@ module _ (bytes : List ℕ) (m : PathMetaHeader) (can : CanMove bytes m) where
   unfolding meta.pathLength
   whole-moved = omega (arith, counts-kept, length-moveBytes bytes m, standing .whole)
 
-  peering-moved : rules.peeringAllowed after left ≡ true
-  unfolding spec.moveBytes rules.peeringAllowed
-  peering-moved = rw (counts-kept .0, peerings-kept bytes (m .«current_info_field») move (meta.infoFieldsCount m)) (able .peering)
+  peering-moved : Bytes bytes → rules.peeringAllowed after left ≡ true
+  unfolding rules.peeringAllowed
+  peering-moved b =
+      let s = standing in
+      rw (move-applied bytes m b (omega arith), counts-kept .0, peerings-kept bytes (m .«current_info_field») move (meta.infoFieldsCount m)) (able .peering)
 
   -- so it can be moved
   pub moved-known : Bytes bytes → Known after left
@@ -220,32 +268,33 @@ module _ (bytes : List ℕ) (m : PathMetaHeader) (can : CanMove bytes m) where
       record {
         path = record { sound-meta = sound-moved; whole = whole-moved; word = word-moved b };
         few = omega (arith, counts-kept, able .few);
-        peering = peering-moved;
+        peering = peering-moved b;
       }
 
+  -- and is read under the header that the move leaves
+  pub read-moved : Bytes bytes → standard 1 after ≡ ok left
+  read-moved b = standard-read after left (moved-known b .path)
+
   -- a single move, of type 1
-  pub one-move : spec.moved 1 bytes ≡ after
-  unfolding spec.moved rules.onMovable spec.notLast carriedOut
-  one-move = rw (can .movable .read, lt-ltb _ _ (can .before-last))
+  pub one-move : spec.move 1 bytes ≡ ok after
+  unfolding spec.move spec.notLast
+  one-move = rw (can .able, lt-ltb _ _ (can .before-last))
+
+  pub moved-is : spec.moved 1 bytes ≡ after
+  unfolding spec.moved
+  moved-is = rw one-move
 
 -- FOR LATER USE
 
 -- no move changes how many bytes there are
 pub length-moved : (type : ℕ) (bytes : List ℕ) → length (spec.moved type bytes) ≡ length bytes
-unfolding spec.moved rules.onMovable carriedOut
-length-moved type bytes = go (rules.movableOf type bytes .answer)
-  where
-    by : (m : PathMetaHeader) (t : Bool) → length (pick t (spec.moveBytes bytes m) bytes) ≡ length bytes
-    by m true = length-moveBytes bytes m
-    by m false = refl
-
-    go : (a : Answer)
-        → length
-        (carriedOut a (rules.movableOf type bytes .path) (λ error. bytes)
-        (λ path. pick (spec.notLast (path .«meta_header»)) (spec.moveBytes bytes (path .«meta_header»)) bytes))
-        ≡ length bytes
-    go Accepted = let m = rules.movableOf type bytes .path .«meta_header» in by m (spec.notLast m)
-    go (Refused error) = refl
+unfolding spec.move spec.moved
+length-moved type bytes =
+    either (λ l. length l ≡ length bytes) (spec.move type bytes) bytes refl
+    (λ l h. let path = stepped (rules.movable type bytes) _ h in
+    let gone = held (spec.notLast (path .value)) _ _ (path .then) in
+    let is : spec.moveBytes bytes (path .value) ≡ l = cc in
+    rw (← is) (length-moveBytes bytes (path .value)))
 
 -- a moves, then b, are a + b moves
 pub walk-add : {A : Type 0} (a b : ℕ) (f : A → A) (x : A) → spec.iterate (a + b) f x ≡ spec.iterate b f (spec.iterate a f x)

@@ -16,8 +16,10 @@ ghost use mathlib.Core.Path.{_≡_};
 ghost use Prim.Native.Nat.{_+_, _≤_, _<_};
 ghost use lib.ListN.{length};
 ghost use Rattle.path_meta_header.specs.MetaHeader.{infoStart};
+ghost use Rattle.wire_encoding.specs.Result.{ok, refused, andThen};
+ghost use Rattle.path.specs.Dataplane.{standard, pathAnswer};
+ghost use Rattle.move_rules.specs.Rules.{movable};
 ghost use Rattle.moves.specs.Moves as spec;
-ghost use Rattle.move_rules.specs.Rules as rules;
 
 // The pair of pointers in a path's bytes.
 pub struct Position {
@@ -41,7 +43,7 @@ pub struct WalkAnswer {
 
 impl WalkAnswer {
     fn refused(error: PathError) -> WalkAnswer
-        ensures { λ r. ⌜ r ≡ spec.noWalk error ⌝ }
+        ensures { λ r. ⌜ r ≡ spec.walkAnswer 1 (refused error) ⌝ }
     {
         let path = StandardPath::zero();
         WalkAnswer {
@@ -154,8 +156,8 @@ fn step(bytes: &mut [u8], meta_header: PathMetaHeader) -> PathMetaHeader
 
 // One move of a path that can be moved, unless it is at its last hop field.
 fn move_on(bytes: &mut [u8], meta_header: PathMetaHeader) -> PathAnswer
-    requires { ⌜ rules.Movable (now bytes) «meta_header» ⌝ }
-    ensures { λ r. ⌜ r ≡ spec.moveAnswer 1 (now (bytes .entry)) ⌝ }
+    requires { ⌜ movable 1 (now bytes) ≡ ok «meta_header» ⌝ }
+    ensures { λ r. ⌜ r ≡ pathAnswer (andThen (spec.move 1 (now (bytes .entry))) (standard 1)) ⌝ }
     ensures { λ _. ⌜ now (bytes .exit) ≡ spec.moved 1 (now (bytes .entry)) ⌝ }
 {
     if wide(meta_header.current_hop_field) + 1 < meta_header.hop_fields_count() {
@@ -167,7 +169,7 @@ fn move_on(bytes: &mut [u8], meta_header: PathMetaHeader) -> PathAnswer
 
 // One move on lent bytes: the hop pointer gains 1, the info pointer names the new segment, the accumulator takes the owner's code in.
 pub fn single_move(path_type: u8, bytes: &mut [u8]) -> PathAnswer
-    ensures { λ r. ⌜ r ≡ spec.moveAnswer «path_type» (now (bytes .entry)) ⌝ }
+    ensures { λ r. ⌜ r ≡ pathAnswer (andThen (spec.move «path_type» (now (bytes .entry))) (standard «path_type»)) ⌝ }
     ensures { λ _. ⌜ now (bytes .exit) ≡ spec.moved «path_type» (now (bytes .entry)) ⌝ }
 {
     let read = movable(path_type, bytes);
@@ -180,10 +182,10 @@ pub fn single_move(path_type: u8, bytes: &mut [u8]) -> PathAnswer
 
 // Moves until the last hop field or the limit.
 fn steps(bytes: &mut [u8], start: PathMetaHeader, limit: usize) -> Walked
-    requires { ⌜ rules.Movable (now bytes) start ⌝ }
+    requires { ⌜ movable 1 (now bytes) ≡ ok start ⌝ }
     ensures { λ r. ⌜ r .moves ≡ spec.walkMoves start limit ⌝ }
-    ensures { λ r. ⌜ r .«meta_header» ≡ spec.metaAfter (r .moves) (now (bytes .entry)) ⌝ }
-    ensures { λ r. ⌜ now (bytes .exit) ≡ spec.bytesAfter (r .moves) (now (bytes .entry)) ⌝ }
+    ensures { λ r. ⌜ standard 1 (spec.iterate (r .moves) (spec.moved 1) (now (bytes .entry))) ≡ ok (r .«meta_header») ⌝ }
+    ensures { λ r. ⌜ now (bytes .exit) ≡ spec.iterate (r .moves) (spec.moved 1) (now (bytes .entry)) ⌝ }
 {
     let count = start.hop_fields_count();
     let mut meta_header = start;
@@ -202,8 +204,8 @@ fn steps(bytes: &mut [u8], start: PathMetaHeader, limit: usize) -> Walked
 
 // The walk of a path that can be moved.
 fn walk_on(bytes: &mut [u8], meta_header: PathMetaHeader, limit: usize) -> WalkAnswer
-    requires { ⌜ rules.Movable (now bytes) «meta_header» ⌝ }
-    ensures { λ r. ⌜ r ≡ spec.walkAnswer 1 (now (bytes .entry)) limit ⌝ }
+    requires { ⌜ movable 1 (now bytes) ≡ ok «meta_header» ⌝ }
+    ensures { λ r. ⌜ r ≡ spec.walkAnswer 1 (spec.walk 1 (now (bytes .entry)) limit) ⌝ }
     ensures { λ _. ⌜ now (bytes .exit) ≡ spec.walked 1 (now (bytes .entry)) limit ⌝ }
 {
     let walked = steps(bytes, meta_header, limit);
@@ -219,7 +221,7 @@ fn walk_on(bytes: &mut [u8], meta_header: PathMetaHeader, limit: usize) -> WalkA
 
 // A walk on lent bytes: moves until the last hop field or the limit.
 pub fn walk(path_type: u8, bytes: &mut [u8], limit: usize) -> WalkAnswer
-    ensures { λ r. ⌜ r ≡ spec.walkAnswer «path_type» (now (bytes .entry)) limit ⌝ }
+    ensures { λ r. ⌜ r ≡ spec.walkAnswer «path_type» (spec.walk «path_type» (now (bytes .entry)) limit) ⌝ }
     ensures { λ _. ⌜ now (bytes .exit) ≡ spec.walked «path_type» (now (bytes .entry)) limit ⌝ }
 {
     let read = movable(path_type, bytes);

@@ -2,11 +2,10 @@
 -- Assumes nothing.
 use Prim.Native.Nat.{ℕ, _+_, _≤_, _<_}
 use mathlib.Core.Path.{_≡_, refl}
-use mathlib.Core.Bool.{Bool, true, false}
+use mathlib.Core.Bool.{Bool, true, false, cond, not, _&&_, _||_}
 use native.Mathlib.Omega.{arith}
 use lib.Dec.{ltb, eqb}
 use borrow.Author.Tests.{ltb-false, eqb-true, eqb-false}
-use Rattle.wire_encoding.specs.Choice.{pick}
 use Rattle.path_meta_header.specs.MetaHeader.{segmentLength, infoFieldsCount, hopFieldsCount, segmentOf, lengthsValid}
 use Rattle.path_meta_header.specs.declared.PathMetaHeader.{PathMetaHeader}
 
@@ -30,8 +29,8 @@ module _ (m : PathMetaHeader) (valid : lengthsValid m ≡ true) where
   unfolding infoFieldsCount lengthsValid
   segments = go (eqb first 0) (eqb second 0) (eqb third 0) refl refl refl valid
     where
-      go : (x y z : Bool) → eqb first 0 ≡ x → eqb second 0 ≡ y → eqb third 0 ≡ z → pick x false (pick y z true) ≡ true
-          → Segments first second third (pick x 0 (pick y 1 (pick z 2 3)))
+      go : (x y z : Bool) → eqb first 0 ≡ x → eqb second 0 ≡ y → eqb third 0 ≡ z → not x && (not y || z) ≡ true
+          → Segments first second third (cond x 0 (cond y 1 (cond z 2 3)))
       go true y z ex ey ez h = let w : _≡_ {A = ℕ} 0 1 = cc in absurd (omega arith)
       go false true true ex ey ez h = one (omega (arith, eqb-false first 0 ex)) (eqb-true second 0 ey) (eqb-true third 0 ez)
       go false true false ex ey ez h = let w : _≡_ {A = ℕ} 0 1 = cc in absurd (omega arith)
@@ -45,7 +44,7 @@ module _ (m : PathMetaHeader) (valid : lengthsValid m ≡ true) where
   unfolding hopFieldsCount segmentOf
   segment-below j h = go (infoFieldsCount m) segments (ltb j first) (ltb j (first + second)) refl refl
     where
-      go : (n : ℕ) → Segments first second third n → (p q : Bool) → ltb j first ≡ p → ltb j (first + second) ≡ q → pick p 0 (pick q 1 2) < n
+      go : (n : ℕ) → Segments first second third n → (p q : Bool) → ltb j first ≡ p → ltb j (first + second) ≡ q → cond p 0 (cond q 1 2) < n
       go n (one a b c) true q ep eq = omega arith
       go n (one a b c) false q ep eq = absurd (omega (arith, ltb-false j first ep))
       go n (two a b c) true q ep eq = omega arith

@@ -2,14 +2,15 @@
 -- Assumes nothing.
 use Prim.Native.Nat.{ℕ, _+_, _*_, _≤_, _<_}
 use mathlib.Core.Path.{_≡_, refl, sym, ap, _∙_}
-use mathlib.Core.Bool.{Bool, true, false}
+use mathlib.Core.Bool.{Bool, true, false, cond}
 use mathlib.Core.List.{List}
 use native.Mathlib.Omega.{arith}
 use lib.Dec.{leb, ltb, eqb}
 use lib.ListN.{length}
-use borrow.Author.Tests.{leb-true, ltb-true, eqb-true}
-use Rattle.wire_encoding.specs.Choice.{pick, value, refused}
-use Rattle.wire_encoding.specs.BigEndian.{bigEndian, numberAt, room}
+use borrow.Author.Tests.{leb-true, ltb-true, eqb-true, lt-ltb, le-leb}
+use Rattle.wire_encoding.specs.Result.{Result, ok, refused, orElse, refusing}
+use Rattle.wire_encoding.specs.BigEndian.{bigEndian, room}
+use Rattle.wire_encoding.proofs.Results.{not-both, same-value, held, stepped, refusing-ok, either}
 use Rattle.path_meta_header.specs.MetaHeader.{
   metaOf,
   infoFieldsCount,
@@ -18,52 +19,78 @@ use Rattle.path_meta_header.specs.MetaHeader.{
   lengthsValid,
   hopValid,
   infoValid,
-  firstRefusal,
   checked,
-  settled,
-  metaRead,
   readMeta,
   infoFieldOffset,
   hopFieldOffset,
 }
 use Rattle.path_meta_header.specs.declared.PathMetaHeader.{PathMetaHeader}
-use Rattle.path_meta_header.specs.declared.Offset.the-variants as offset
-use Rattle.path_error.specs.declared.Decoded.{Decoded}
 use Rattle.path_error.specs.declared.Decoded.the-variants as decoded
 use Rattle.path_error.specs.declared.DecodeError.{DecodeError}
-use Rattle.path_error.specs.declared.DecodeError.the-variants.{PacketEmptyOrTruncated}
-use Rattle.path_error.specs.declared.Answer.{Answer}
 use Rattle.path_error.specs.declared.Answer.the-variants as answer
 use Rattle.path_error.specs.declared.PathError.{PathError}
-use Rattle.path_error.specs.declared.PathError.the-variants.{NoSuchField}
-use Rattle.path.specs.declared.standard.StandardPath.{StandardPath}
+use Rattle.path_error.specs.declared.PathError.the-variants.{Decode}
+use Rattle.path_error.proofs.Told as told
+use Rattle.path.specs.declared.standard.Part.{Part}
+use Rattle.path.specs.declared.standard.PathRead.{PathRead}
 use Rattle.path.specs.declared.dataplane.PathAnswer.{PathAnswer}
+use Rattle.path.specs.declared.dataplane.DataplaneRead.{DataplaneRead}
 use Rattle.path.specs.declared.dataplane.Located.{Located}
-use Rattle.path.specs.Segment.{noSegment, segmentOfPath}
-use Rattle.path.proofs.SegmentLaws.{inside}
-use Rattle.path.specs.Standard.{pathRefused, complete, readPath}
-use Rattle.path.specs.Dataplane.{
-  unread,
-  standardRead,
-  readDataplane,
-  answerRefused,
-  standardAnswer,
-  standardOf,
-  carriedOut,
-  onStandard,
-  notLocated,
-  locatedAt,
-  infoFieldIn,
-  hopFieldIn,
-  segmentIn,
-}
+use Rattle.path.specs.Standard.{readPath, pathUnder, pathRead}
+use Rattle.path.specs.Segment.{Fields, nowhere, segmentOfPath}
+use Rattle.path.specs.Dataplane.{Extent, headless, readStandard, readDataplane, dataplaneRead, standard, pathAnswer, infoFieldIn, hopFieldIn, segmentIn, located, segment}
+use Rattle.path.proofs.SegmentLaws as segments
 
--- no answer is both
-never : {error : DecodeError} → decoded.Refused error ≡ decoded.Accepted → ⊥
-never h = let z : _≡_ {A = ℕ} 0 1 = cc in omega arith
+-- WHAT AN ANSWER SAYS
 
-never-answer : {error : PathError} → answer.Refused error ≡ answer.Accepted → ⊥
-never-answer h = let z : _≡_ {A = ℕ} 0 1 = cc in omega arith
+-- a caller of `StandardPath::decode`
+module _ (r : Result DecodeError PathMetaHeader) {read : PathRead} (is : read ≡ pathRead r) where
+  pub path-ok : read .answer ≡ decoded.Accepted → r ≡ ok (read .path .«meta_header»)
+  unfolding pathRead
+  path-ok h = told.decoded-ok r (metaOf 0) (ap (λ (x : PathRead). x .answer) is) (ap (λ (x : PathRead). x .path .«meta_header») is) h
+
+  pub path-refused : {error : DecodeError} → read .answer ≡ decoded.Refused error → r ≡ refused error
+  unfolding pathRead
+  path-refused h = told.decoded-refused r (ap (λ (x : PathRead). x .answer) is) h
+
+-- of `DataplanePath::decode`
+module _ (r : Result DecodeError Extent) {read : DataplaneRead} (is : read ≡ dataplaneRead r) where
+  pub read-ok : read .answer ≡ decoded.Accepted → r ≡ ok (record { header = read .path .«meta_header»; length = read .length })
+  unfolding dataplaneRead
+  read-ok h =
+      told.decoded-ok r (headless 0) (ap (λ (x : DataplaneRead). x .answer) is)
+      (ap (λ (x : DataplaneRead). record { header = x .path .«meta_header»; length = x .length }) is) h
+
+  pub read-refused : {error : DecodeError} → read .answer ≡ decoded.Refused error → r ≡ refused error
+  unfolding dataplaneRead
+  read-refused h = told.decoded-refused r (ap (λ (x : DataplaneRead). x .answer) is) h
+
+-- of a call on a path
+module _ (r : Result PathError PathMetaHeader) {call : PathAnswer} (is : call ≡ pathAnswer r) where
+  pub answer-ok : call .answer ≡ answer.Accepted → r ≡ ok (call .path .«meta_header»)
+  unfolding pathAnswer
+  answer-ok h = told.answer-ok r (metaOf 0) (ap (λ (x : PathAnswer). x .answer) is) (ap (λ (x : PathAnswer). x .path .«meta_header») is) h
+
+  pub answer-refused : {error : PathError} → call .answer ≡ answer.Refused error → r ≡ refused error
+  unfolding pathAnswer
+  answer-refused h = told.answer-refused r (ap (λ (x : PathAnswer). x .answer) is) h
+
+-- of a view
+module _ (path : Result PathError PathMetaHeader) (r : Result PathError Part) {call : Located} (is : call ≡ located path r) where
+  pub located-ok : call .answer ≡ answer.Accepted → r ≡ ok (call .part)
+  unfolding located
+  located-ok h = told.answer-ok r nowhere (ap (λ (x : Located). x .answer) is) (ap (λ (x : Located). x .part) is) h
+
+  pub located-refused : {error : PathError} → call .answer ≡ answer.Refused error → r ≡ refused error
+  unfolding located
+  located-refused h = told.answer-refused r (ap (λ (x : Located). x .answer) is) h
+
+  -- and the record beside it is the path's
+  pub located-path : {m : PathMetaHeader} → call .answer ≡ answer.Accepted → path ≡ ok m → call .path ≡ pathUnder m
+  unfolding located
+  located-path h e = ap (λ (x : Located). x .path) is ∙ rw (located-ok h, e)
+
+-- A PATH THAT WAS READ
 
 -- a meta header that passes its rules
 pub record Sound (m : PathMetaHeader) : Type 0 where
@@ -71,163 +98,132 @@ pub record Sound (m : PathMetaHeader) : Type 0 where
   pub info : m .«current_info_field» < infoFieldsCount m
   pub hop : hopValid m ≡ true
 
-sound : (m : PathMetaHeader) → checked m ≡ decoded.Accepted → Sound m
-unfolding checked firstRefusal infoValid
-sound m e = go (lengthsValid m) (ltb (m .«current_info_field») (infoFieldsCount m)) (hopValid m) refl refl refl e
-  where
-    go : (x y z : Bool) → lengthsValid m ≡ x → ltb (m .«current_info_field») (infoFieldsCount m) ≡ y → hopValid m ≡ z
-        → firstRefusal x y z ≡ decoded.Accepted → Sound m
-    go true true true ex ey ez h = record { lengths = ex; info = ltb-true (m .«current_info_field») (infoFieldsCount m) ey; hop = ez }
-    go true true false ex ey ez h = absurd (never h)
-    go true false z ex ey ez h = absurd (never h)
-    go false y z ex ey ez h = absurd (never h)
-
 -- the bytes hold a whole path under this meta header
 pub record Readable (bytes : List ℕ) (m : PathMetaHeader) : Type 0 where
   pub sound-meta : Sound m
   pub whole : pathLength m ≤ length bytes
   pub word : m ≡ metaOf (bigEndian 4 bytes 0)
 
--- a meta header that was read is sound, and is the first four bytes'
-meta-read : (bytes : List ℕ) → readMeta bytes .answer ≡ decoded.Accepted
-    → Sound (readMeta bytes .«meta_header») × (readMeta bytes .«meta_header» ≡ metaOf (bigEndian 4 bytes 0))
-unfolding readMeta metaRead settled numberAt
-meta-read bytes h = go (room bytes 0 4) h
-  where
-    settle : (a : Decoded) → checked (metaOf (bigEndian 4 bytes 0)) ≡ a → settled a (metaOf (bigEndian 4 bytes 0)) .answer ≡ decoded.Accepted
-        → Sound (settled a (metaOf (bigEndian 4 bytes 0)) .«meta_header»)
-        × (settled a (metaOf (bigEndian 4 bytes 0)) .«meta_header» ≡ metaOf (bigEndian 4 bytes 0))
-    settle decoded.Accepted e h = (sound _ e, refl)
-    settle (decoded.Refused error) e h = absurd (never h)
+sound : (m : PathMetaHeader) {read : PathMetaHeader} → checked m ≡ ok read → Sound m × (m ≡ read)
+unfolding checked infoValid
+sound m h =
+    let lengths = held (lengthsValid m) _ _ h in
+    let info = held (ltb (m .«current_info_field») (infoFieldsCount m)) _ _ (lengths .1) in
+    let hop = held (hopValid m) _ _ (info .1) in
+    (record { lengths = lengths .0; info = ltb-true _ _ (info .0); hop = hop .0 }, cc)
 
-    go : (t : Bool) → metaRead (pick t (value (bigEndian 4 bytes 0)) (refused 1)) .answer ≡ decoded.Accepted
-        → Sound (metaRead (pick t (value (bigEndian 4 bytes 0)) (refused 1)) .«meta_header»)
-        × (metaRead (pick t (value (bigEndian 4 bytes 0)) (refused 1)) .«meta_header» ≡ metaOf (bigEndian 4 bytes 0))
-    go true h = settle (checked (metaOf (bigEndian 4 bytes 0))) refl h
-    go false h = absurd (never h)
+module _ (bytes : List ℕ) {m : PathMetaHeader} where
+  -- a path that is read is readable
+  pub readable : readPath bytes ≡ ok m → Readable bytes m
+  unfolding readPath readMeta
+  readable h =
+      let header = stepped (readMeta bytes) _ h in
+      let checks = sound _ (held (room bytes 0 4) _ _ (header .first) .1) in
+      let fields = held (leb (pathLength (header .value)) (length bytes)) _ _ (header .then) in
+      let same : header .value ≡ m = cc in
+      rw (← same) (record {
+        sound-meta = rw (checks .1) at (checks .0);
+        whole = leb-true _ _ (fields .0);
+        word = sym (checks .1);
+      })
 
--- a path that was read is readable
+  -- and so is one that a call on standard paths goes on with, and its type is 1
+  pub standard-type : (type : ℕ) → standard type bytes ≡ ok m → type ≡ 1
+  unfolding standard
+  standard-type type h = eqb-true type 1 (held (eqb type 1) _ _ (stepped (refusing Decode (readDataplane type bytes)) _ h .then) .0)
+
+  pub standard-readable : (type : ℕ) → standard type bytes ≡ ok m → Readable bytes m
+  unfolding standard readDataplane
+  standard-readable type h =
+      let read = stepped (refusing Decode (readDataplane 1 bytes)) _ (rw (standard-type type h) at h) in
+      let header = stepped (readPath bytes) _ (refusing-ok Decode (readDataplane 1 bytes) (read .first)) in
+      readable (header .first ∙ ap ok (ap (λ (r : Extent). r .header) (same-value (header .then)) ∙ same-value (read .then)))
+
+-- the other way round: such a path is read
+module _ (bytes : List ℕ) (m : PathMetaHeader) (r : Readable bytes m) where
+  four : 4 ≤ length bytes
+  unfolding pathLength
+  four = omega (arith, r .whole)
+
+  pub path-read : readPath bytes ≡ ok m
+  unfolding readPath readMeta room checked infoValid
+  path-read =
+      rw (le-leb 4 (length bytes) four, ← r .word, r .sound-meta .lengths, lt-ltb _ _ (r .sound-meta .info), r .sound-meta .hop, le-leb _ _ (r .whole))
+
+  pub standard-read : standard 1 bytes ≡ ok m
+  unfolding standard readDataplane
+  standard-read = rw path-read
+
+-- WHERE THE PARTS LIE
+
+stands : (r : Result PathError PathMetaHeader) {m : PathMetaHeader} → r ≡ ok m → r ≡ ok (orElse r (metaOf 0))
+stands (ok m) h = refl
+stands (refused error) h = absurd (not-both h)
+
 module _ (bytes : List ℕ) where
-  abbrev header : PathMetaHeader
-  header = readMeta bytes .«meta_header»
-
-  whole-or-refused : (t : Bool) → leb (pathLength header) (length bytes) ≡ t → readMeta bytes .answer ≡ decoded.Accepted
-      → pick t (record { answer = decoded.Accepted; path = record { «meta_header» = header } }) (pathRefused PacketEmptyOrTruncated) .answer
-      ≡ decoded.Accepted
-      → Readable bytes
-      (pick t (record { answer = decoded.Accepted; path = record { «meta_header» = header } }) (pathRefused PacketEmptyOrTruncated)
-      .path .«meta_header»)
-  unfolding pathRefused
-  whole-or-refused true e a h =
-      let known = meta-read bytes a in
-      record { sound-meta = known .0; whole = leb-true (pathLength header) (length bytes) e; word = known .1 }
-  whole-or-refused false e a h = absurd (never h)
-
-  pub readable : readPath bytes .answer ≡ decoded.Accepted → Readable bytes (readPath bytes .path .«meta_header»)
-  unfolding readPath complete pathRefused
-  readable h = go (readMeta bytes .answer) refl h
-    where
-      go : (a : Decoded) → readMeta bytes .answer ≡ a → complete a header (length bytes) .answer ≡ decoded.Accepted
-          → Readable bytes (complete a header (length bytes) .path .«meta_header»)
-      go decoded.Accepted e h = whole-or-refused (leb (pathLength header) (length bytes)) refl e h
-      go (decoded.Refused error) e h = absurd (never h)
-
-  -- and so is one that a call on standard paths goes on with
-  pub standard-readable : (type : ℕ) → standardOf type bytes .answer ≡ answer.Accepted → Readable bytes (standardOf type bytes .path .«meta_header»)
-  unfolding standardOf standardAnswer readDataplane standardRead unread answerRefused
-  standard-readable type h = go (eqb type 0) (eqb type 1) refl refl
-    where
-      by : (a : Decoded) → readPath bytes .answer ≡ a
-          → standardAnswer 1 (standardRead a (readPath bytes .path) .answer) (standardRead a (readPath bytes .path) .path) .answer ≡ answer.Accepted
-          → Readable bytes
-          (standardAnswer 1 (standardRead a (readPath bytes .path) .answer) (standardRead a (readPath bytes .path) .path) .path .«meta_header»)
-      by decoded.Accepted e h = readable e
-      by (decoded.Refused error) e h = absurd (never-answer h)
-
-      go : (z o : Bool) → eqb type 0 ≡ z → eqb type 1 ≡ o → Readable bytes (standardOf type bytes .path .«meta_header»)
-      go true true ez eo = absurd (omega (arith, eqb-true type 0 ez, eqb-true type 1 eo))
-      go true false ez eo = absurd (never-answer (rw eo at (rw ez at h)))
-      go false true ez eo =
-          let one : type ≡ 1 = eqb-true type 1 eo in
-          rw one (by (readPath bytes .answer) refl (rw one at h))
-      go false false ez eo = absurd (never-answer (rw eo at (rw (ez, eo) at h)))
-
-  -- as a function that called `standard` knows it
-  pub goes-on : (type : ℕ) {r : PathAnswer} → r ≡ standardOf type bytes → r .answer ≡ answer.Accepted → Readable bytes (r .path .«meta_header»)
-  goes-on type {r} e h = rw (← e) at (standard-readable type (ap (λ (x : PathAnswer). x .answer) (sym e) ∙ h))
-
-  -- what holds of a refusal, and of what a call does with a readable path, holds of the call
-  pub carried : {R : Type 0} (P : R → Type 0) (type : ℕ) (refuse : PathError → R) (call : StandardPath → R)
-      → ((error : PathError) → P (refuse error))
-      → ((path : StandardPath) → Readable bytes (path .«meta_header») → P (call path))
-      → P (onStandard type bytes refuse call)
-  unfolding onStandard carriedOut
-  carried P type refuse call refusal done = go (standardOf type bytes .answer) refl
-    where
-      go : (a : Answer) → standardOf type bytes .answer ≡ a → P (carriedOut a (standardOf type bytes .path) refuse call)
-      go answer.Accepted e = done (standardOf type bytes .path) (standard-readable type e)
-      go (answer.Refused error) e = refusal error
-
   -- a path is at most all the bytes
-  pub length-inside : (type : ℕ) → readDataplane type bytes .length ≤ length bytes
-  unfolding readDataplane standardRead unread
+  pub length-inside : (type : ℕ) → dataplaneRead (readDataplane type bytes) .length ≤ length bytes
+  unfolding readDataplane dataplaneRead
   length-inside type = go (eqb type 0) (eqb type 1)
     where
-      by : (a : Decoded) → readPath bytes .answer ≡ a → standardRead a (readPath bytes .path) .length ≤ length bytes
-      by decoded.Accepted e = readable e .whole
-      by (decoded.Refused error) e = omega arith
-
       go : (z o : Bool)
-          → pick z (unread 0) (pick o (standardRead (readPath bytes .answer) (readPath bytes .path)) (unread (length bytes))) .length ≤ length bytes
+          → dataplaneRead (cond z (ok (headless 0)) (cond o (readStandard bytes) (ok (headless (length bytes))))) .length ≤ length bytes
       go true o = omega arith
-      go false true = by (readPath bytes .answer) refl
+      go false true =
+          either (λ (x : Extent). x .length ≤ length bytes) (readStandard bytes) (headless 0) (omega arith)
+          (λ x h. let m = stepped (readPath bytes) _ h in omega (arith, readable bytes (m .first) .whole, ap (λ (r : Extent). r .length) (same-value (m .then))))
       go false false = omega arith
 
--- a view lies among n bytes, and is of its size unless it is refused
-pub record Inside (size n : ℕ) (r : Located) : Type 0 where
-  pub inside : r .part .start + r .part .len ≤ n
-  pub sized : r .answer ≡ answer.Accepted → r .part .len ≡ size
+-- a view lies among n bytes, and is of its size
+pub record Inside (size n : ℕ) (v : Part) : Type 0 where
+  pub inside : v .start + v .len ≤ n
+  pub sized : v .len ≡ size
 
-refused-inside : (size n : ℕ) (error : PathError) → Inside size n (notLocated error)
-unfolding notLocated
-refused-inside size n error = record { inside = omega arith; sized = λ h. absurd (never-answer h) }
-
--- a field at an offset that a test allows
-offset-inside : (path : StandardPath) (size n start : ℕ) (t : Bool) → (t ≡ true → start + size ≤ n)
-    → Inside size n (locatedAt path (pick t (offset.At start) offset.NoSuchField) size)
-unfolding locatedAt
-offset-inside path size n start true h = record { inside = h refl; sized = λ e. refl }
-offset-inside path size n start false h = refused-inside size n NoSuchField
+-- a part that is handed back lies among them too, for it is empty where it is refused
+abbrev Among : List ℕ → Part → Type 0
+Among bytes p = p .start + p .len ≤ length bytes
 
 module _ (bytes : List ℕ) (type : ℕ) where
-  pub info-inside : (k : ℕ) → Inside 8 (length bytes) (infoFieldIn type bytes k)
+  info-view : (k : ℕ) (v : Part) → infoFieldIn type bytes k ≡ ok v → Inside 8 (length bytes) v
   unfolding infoFieldIn infoFieldOffset pathLength
-  info-inside k =
-      carried bytes (Inside 8 (length bytes)) type notLocated (λ path. locatedAt path (infoFieldOffset (path .«meta_header») k) 8)
-      (refused-inside 8 (length bytes))
-      (λ path r. let test = ltb k (infoFieldsCount (path .«meta_header»)) in
-      offset-inside path 8 (length bytes) (4 + k * 8) test
-      (λ e. omega (arith, ltb-true k (infoFieldsCount (path .«meta_header»)) e, r .whole)))
+  info-view k v h =
+      let read = stepped (standard type bytes) _ h in
+      let found = stepped (infoFieldOffset (read .value) k) _ (read .then) in
+      let there = held (ltb k (infoFieldsCount (read .value))) _ _ (found .first) in
+      let same : _≡_ {A = Part} (record { start = 4 + k * 8; len = 8 }) v = cc in
+      rw (← same) (record { inside = omega (arith, ltb-true k (infoFieldsCount (read .value)) (there .0), standard-readable bytes type (read .first) .whole); sized = refl })
 
-  pub hop-inside : (j : ℕ) → Inside 12 (length bytes) (hopFieldIn type bytes j)
+  pub hop-view : (j : ℕ) (v : Part) → hopFieldIn type bytes j ≡ ok v → Inside 12 (length bytes) v
   unfolding hopFieldIn hopFieldOffset pathLength
-  hop-inside j =
-      carried bytes (Inside 12 (length bytes)) type notLocated (λ path. locatedAt path (hopFieldOffset (path .«meta_header») j) 12)
-      (refused-inside 12 (length bytes))
-      (λ path r. let test = ltb j (hopFieldsCount (path .«meta_header»)) in
-      offset-inside path 12 (length bytes) (4 + infoFieldsCount (path .«meta_header») * 8 + j * 12) test
-      (λ e. omega (arith, ltb-true j (hopFieldsCount (path .«meta_header»)) e, r .whole)))
+  hop-view j v h =
+      let read = stepped (standard type bytes) _ h in
+      let found = stepped (hopFieldOffset (read .value) j) _ (read .then) in
+      let there = held (ltb j (hopFieldsCount (read .value))) _ _ (found .first) in
+      let same : _≡_ {A = Part} (record { start = 4 + infoFieldsCount (read .value) * 8 + j * 12; len = 12 }) v = cc in
+      rw (← same) (record { inside = omega (arith, ltb-true j (hopFieldsCount (read .value)) (there .0), standard-readable bytes type (read .first) .whole); sized = refl })
 
-  -- the hop fields of segment k too
-  pub segment-inside : (k : ℕ) → segmentIn type bytes k .«hop_fields» .start + segmentIn type bytes k .«hop_fields» .len ≤ length bytes
-  unfolding segmentIn segmentOfPath noSegment
-  segment-inside k =
-      carried bytes (λ r. r .«hop_fields» .start + r .«hop_fields» .len ≤ length bytes) type noSegment (λ path. segmentOfPath path k)
-      (λ error. omega arith)
-      (λ path r. go path r (ltb k (infoFieldsCount (path .«meta_header»))) refl)
-    where
-      go : (path : StandardPath) → Readable bytes (path .«meta_header») → (t : Bool) → ltb k (infoFieldsCount (path .«meta_header»)) ≡ t
-          → segmentOfPath path k .«hop_fields» .start + segmentOfPath path k .«hop_fields» .len ≤ length bytes
-      go path r true e =
-          rw e (inside bytes (path .«meta_header») k (ltb-true k (infoFieldsCount (path .«meta_header»)) e) (r .whole) .hops)
-      go path r false e = rw e (omega arith)
+  -- a field that is there is one of a path that was read
+  pub hop-read : (j : ℕ) {v : Part} → hopFieldIn type bytes j ≡ ok v → standard type bytes ≡ ok (orElse (standard type bytes) (metaOf 0))
+  unfolding hopFieldIn
+  hop-read j h = stands (standard type bytes) (stepped (standard type bytes) _ h .first)
+
+  segment-view : (k : ℕ) (v : Fields) → segmentIn type bytes k ≡ ok v → Among bytes (v .hops)
+  unfolding segmentIn segmentOfPath
+  segment-view k v h =
+      let read = stepped (standard type bytes) _ h in
+      let m = read .value in
+      let there = held (ltb k (infoFieldsCount m)) _ _ (read .then) in
+      rw (← ap (λ (r : Result PathError Fields). orElse r v .hops) (there .1))
+      (segments.inside bytes m k (ltb-true _ _ (there .0)) (standard-readable bytes type (read .first) .whole) .hops)
+
+  pub info-inside : (k : ℕ) → Among bytes (located (standard type bytes) (infoFieldIn type bytes k) .part)
+  unfolding located
+  info-inside k = either (Among bytes) (infoFieldIn type bytes k) _ (omega arith) (λ v h. info-view k v h .inside)
+
+  pub hop-inside : (j : ℕ) → Among bytes (located (standard type bytes) (hopFieldIn type bytes j) .part)
+  unfolding located
+  hop-inside j = either (Among bytes) (hopFieldIn type bytes j) _ (omega arith) (λ v h. hop-view j v h .inside)
+
+  pub segment-inside : (k : ℕ) → Among bytes (segment (standard type bytes) (segmentIn type bytes k) .«hop_fields»)
+  unfolding segment
+  segment-inside k = either (λ v. Among bytes (v .hops)) (segmentIn type bytes k) _ (omega arith) (segment-view k)

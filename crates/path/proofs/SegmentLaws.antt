@@ -3,12 +3,11 @@
 use Prim.Native.Nat.{ℕ, _+_, _*_, _<_, _≤_}
 use mathlib.Core.Path.{_≡_, refl}
 use mathlib.Core.List.{List}
-use mathlib.Core.Bool.{Bool, true, false}
+use mathlib.Core.Bool.{Bool, true, false, cond}
 use native.Mathlib.Omega.{arith}
 use lib.Dec.{eqb}
 use lib.ListN.{length}
 use borrow.Author.Tests.{eqb-false}
-use Rattle.wire_encoding.specs.Choice.{pick}
 use Rattle.path_meta_header.specs.MetaHeader.{infoFieldsCount, hopFieldsCount, firstHopField, segmentLength, segmentLengthOf, pathLength, infoStart, hopStart}
 use Rattle.path_meta_header.specs.declared.PathMetaHeader.{PathMetaHeader}
 
@@ -21,10 +20,10 @@ segment-within m k h =
   where
     go : (a b x y z : Bool) → eqb k 0 ≡ a → eqb k 1 ≡ b
         → eqb (segmentLength m 0) 0 ≡ x → eqb (segmentLength m 1) 0 ≡ y → eqb (segmentLength m 2) 0 ≡ z
-        → k < pick x 0 (pick y 1 (pick z 2 3))
-        → (1 ≤ pick a (segmentLength m 0) (pick b (segmentLength m 1) (segmentLength m 2)))
-        × (pick a 0 (pick b (segmentLength m 0) (segmentLength m 0 + segmentLength m 1))
-        + pick a (segmentLength m 0) (pick b (segmentLength m 1) (segmentLength m 2))
+        → k < cond x 0 (cond y 1 (cond z 2 3))
+        → (1 ≤ cond a (segmentLength m 0) (cond b (segmentLength m 1) (segmentLength m 2)))
+        × (cond a 0 (cond b (segmentLength m 0) (segmentLength m 0 + segmentLength m 1))
+        + cond a (segmentLength m 0) (cond b (segmentLength m 1) (segmentLength m 2))
         ≤ segmentLength m 0 + segmentLength m 1 + segmentLength m 2)
     go a b true y z ea eb ex ey ez h = (omega arith, omega arith)
     go true b false y z ea eb ex ey ez h = (omega (arith, eqb-false (segmentLength m 0) 0 ex), omega arith)

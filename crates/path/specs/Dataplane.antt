@@ -1,21 +1,19 @@
 -- The calls on a path of any type: a type byte beside the bytes. Reading comes first, then each call's own order.
 use Prim.Native.Nat.{ℕ}
+use mathlib.Core.Bool.{cond}
 use mathlib.Core.List.{List}
 use lib.ListN.{length}
 use lib.Dec.{eqb}
-use Rattle.wire_encoding.specs.Choice.{pick}
+use Rattle.wire_encoding.specs.Result.{Result, ok, require, andThen, _>>_, _>>=_, orElse, refusing, told}
 use Rattle.wire_encoding.specs.BigEndian.{part}
-use Rattle.path_meta_header.specs.MetaHeader.{pathLength, infoFieldOffset, hopFieldOffset}
-use Rattle.path_meta_header.specs.declared.Offset.{Offset}
-use Rattle.path_meta_header.specs.declared.Offset.the-variants as offset
-use Rattle.path_error.specs.declared.Decoded.{Decoded}
-use Rattle.path_error.specs.declared.Decoded.the-variants as decoded
-use Rattle.path_error.specs.declared.Answer.{Answer}
-use Rattle.path_error.specs.declared.Answer.the-variants.{Accepted, Refused}
+use Rattle.path_meta_header.specs.MetaHeader.{metaOf, pathLength, infoFieldOffset, hopFieldOffset}
+use Rattle.path_meta_header.specs.declared.PathMetaHeader.{PathMetaHeader}
+use Rattle.path_error.specs.Errors.{decodedOf, answerOf}
+use Rattle.path_error.specs.declared.DecodeError.{DecodeError}
 use Rattle.path_error.specs.declared.PathError.{PathError}
 use Rattle.path_error.specs.declared.PathError.the-variants.{Decode, NoSuchField}
-use Rattle.path.specs.Standard.{zeroPath, readPath}
-use Rattle.path.specs.Segment.{noSegment, segmentOfPath}
+use Rattle.path.specs.Standard.{pathUnder, readPath}
+use Rattle.path.specs.Segment.{Fields, segmentOfPath, nowhere}
 use Rattle.path.specs.declared.standard.StandardPath.{StandardPath}
 use Rattle.path.specs.declared.standard.Part.{Part}
 use Rattle.path.specs.declared.standard.segment.Segment.{Segment}
@@ -25,66 +23,84 @@ use Rattle.path.specs.declared.dataplane.Located.{Located}
 
 -- READING
 
--- a path that needs no reading: n bytes of it
-unfoldable pub unread : ℕ → DataplaneRead
-unread n = record { answer = decoded.Accepted; path = zeroPath; length = n }
+-- a path that was read: its header, zero unless its type is 1, and how many of the bytes are the path's
+pub record Extent : Type 0 where
+  pub header : PathMetaHeader
+  pub length : ℕ
 
--- a standard path that was read is as long as its meta header says
-unfoldable pub standardRead : Decoded → StandardPath → DataplaneRead
-standardRead decoded.Accepted path =
-    record { answer = decoded.Accepted; path = path; length = pathLength (path .«meta_header») }
-standardRead (decoded.Refused error) path = record { answer = decoded.Refused error; path = path; length = 0 }
+abbrev pub headless : ℕ → Extent
+headless n = record { header = metaOf 0; length = n }
+
+-- a standard path is as long as its header says
+abbrev pub readStandard : List ℕ → Result DecodeError Extent
+readStandard bytes = do
+  m ← readPath bytes
+  ok (record { header = m; length = pathLength m })
 
 -- type 0 is empty, 1 standard, any other opaque: all the bytes there are
-unfoldable pub readDataplane : ℕ → List ℕ → DataplaneRead
-readDataplane type bytes =
-    pick (eqb type 0) (unread 0)
-    (pick (eqb type 1) (standardRead (readPath bytes .answer) (readPath bytes .path)) (unread (length bytes)))
+unfoldable pub readDataplane : ℕ → List ℕ → Result DecodeError Extent
+readDataplane type bytes = cond (eqb type 0) (ok (headless 0)) (cond (eqb type 1) (readStandard bytes) (ok (headless (length bytes))))
+
+unfoldable pub dataplaneRead : Result DecodeError Extent → DataplaneRead
+dataplaneRead r =
+    let found = orElse r (headless 0) in
+    record { answer = decodedOf r; path = pathUnder (found .header); length = found .length }
 
 -- CALLS ON STANDARD PATHS: reading, then 8 for every other type, then the call
 
-unfoldable pub answerRefused : PathError → PathAnswer
-answerRefused error = record { answer = Refused error; path = zeroPath }
+unfoldable pub standard : ℕ → List ℕ → Result PathError PathMetaHeader
+standard type bytes = do
+  read ← refusing Decode (readDataplane type bytes)
+  require (eqb type 1) NoSuchField
+  ok (read .header)
 
-unfoldable pub standardAnswer : ℕ → Decoded → StandardPath → PathAnswer
-standardAnswer type decoded.Accepted path =
-    pick (eqb type 1) (record { answer = Accepted; path = path }) (answerRefused NoSuchField)
-standardAnswer type (decoded.Refused error) path = answerRefused (Decode error)
+-- what a call hands back: the record of the path as it leaves it, zeros where it is refused
+unfoldable pub pathAnswer : Result PathError PathMetaHeader → PathAnswer
+pathAnswer r = record { answer = answerOf r; path = pathUnder (orElse r (metaOf 0)) }
 
-unfoldable pub standardOf : ℕ → List ℕ → PathAnswer
-standardOf type bytes = standardAnswer type (readDataplane type bytes .answer) (readDataplane type bytes .path)
+-- a call that writes: the header of the path that it leaves, and what the lent bytes then hold; a refusal changes nothing
+pub record Written : Type 0 where
+  pub header : PathMetaHeader
+  pub bytes : List ℕ
 
--- the call where it begins: what it answers to a refusal, and what it does with the record
-unfoldable pub carriedOut : {R : Type 0} → Answer → StandardPath → (PathError → R) → (StandardPath → R) → R
-carriedOut Accepted path refuse call = call path
-carriedOut (Refused error) path refuse call = refuse error
+abbrev pub writtenAnswer : Result PathError Written → PathAnswer
+writtenAnswer r = pathAnswer (andThen r (λ written. ok (written .header)))
 
-unfoldable pub onStandard : {R : Type 0} → ℕ → List ℕ → (PathError → R) → (StandardPath → R) → R
-onStandard type bytes refuse call = carriedOut (standardOf type bytes .answer) (standardOf type bytes .path) refuse call
+abbrev pub contents : Result PathError Written → List ℕ → List ℕ
+contents r lent = told r (λ written. written .bytes) (λ error. lent)
+
+-- the record of the path beside a value that is found of it: zeros where the value is refused
+abbrev pub beside : {A : Type 0} → Result PathError PathMetaHeader → Result PathError A → StandardPath
+beside path r = pathUnder (orElse (andThen r (λ _. path)) (metaOf 0))
 
 -- VIEWS: where a field lies; 8 where there is none
 
-unfoldable pub notLocated : PathError → Located
-notLocated error = record { answer = Refused error; path = zeroPath; part = record { start = 0; len = 0 } }
+unfoldable pub infoFieldIn : ℕ → List ℕ → ℕ → Result PathError Part
+infoFieldIn type bytes k = do
+  m ← standard type bytes
+  start ← infoFieldOffset m k
+  ok (record { start = start; len = 8 })
 
-unfoldable pub locatedAt : StandardPath → Offset → ℕ → Located
-locatedAt path (offset.At start) len = record { answer = Accepted; path = path; part = record { start = start; len = len } }
-locatedAt path offset.NoSuchField len = notLocated NoSuchField
+unfoldable pub hopFieldIn : ℕ → List ℕ → ℕ → Result PathError Part
+hopFieldIn type bytes j = do
+  m ← standard type bytes
+  start ← hopFieldOffset m j
+  ok (record { start = start; len = 12 })
 
-unfoldable pub infoFieldIn : ℕ → List ℕ → ℕ → Located
-infoFieldIn type bytes k = onStandard type bytes notLocated (λ path. locatedAt path (infoFieldOffset (path .«meta_header») k) 8)
+unfoldable pub segmentIn : ℕ → List ℕ → ℕ → Result PathError Fields
+segmentIn type bytes k = do
+  m ← standard type bytes
+  segmentOfPath m k
 
-unfoldable pub hopFieldIn : ℕ → List ℕ → ℕ → Located
-hopFieldIn type bytes j = onStandard type bytes notLocated (λ path. locatedAt path (hopFieldOffset (path .«meta_header») j) 12)
+-- what is handed back of one
+unfoldable pub located : Result PathError PathMetaHeader → Result PathError Part → Located
+located path r = record { answer = answerOf r; path = beside path r; part = orElse r nowhere }
 
-unfoldable pub segmentIn : ℕ → List ℕ → ℕ → Segment
-segmentIn type bytes k = onStandard type bytes noSegment (λ path. segmentOfPath path k)
+unfoldable pub segment : Result PathError PathMetaHeader → Result PathError Fields → Segment
+segment path r =
+    let found = orElse r (record { info = nowhere; hops = nowhere }) in
+    record { answer = answerOf r; path = beside path r; «info_field» = found .info; «hop_fields» = found .hops }
 
 -- the bytes of a part
 abbrev pub partIn : List ℕ → Part → List ℕ
 partIn bytes p = part (p .start) (p .len) bytes
-
--- what a call answers that changes nothing of the record
-unfoldable pub answered : Answer → StandardPath → PathAnswer
-answered Accepted path = record { answer = Accepted; path = path }
-answered (Refused error) path = answerRefused error

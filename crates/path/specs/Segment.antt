@@ -1,33 +1,26 @@
 -- Segments of a standard path.
 use Prim.Native.Nat.{ℕ, _*_}
 use lib.Dec.{ltb}
-use Rattle.wire_encoding.specs.Choice.{pick}
+use Rattle.wire_encoding.specs.Result.{Result, ok, require, _>>_}
 use Rattle.path_meta_header.specs.MetaHeader.{infoFieldsCount, firstHopField, segmentLengthOf, infoStart, hopStart}
-use Rattle.path_error.specs.declared.Answer.the-variants.{Accepted, Refused}
+use Rattle.path_meta_header.specs.declared.PathMetaHeader.{PathMetaHeader}
 use Rattle.path_error.specs.declared.PathError.{PathError}
 use Rattle.path_error.specs.declared.PathError.the-variants.{NoSuchField}
-use Rattle.path.specs.Standard.{zeroPath}
-use Rattle.path.specs.declared.standard.StandardPath.{StandardPath}
-use Rattle.path.specs.declared.standard.segment.Segment.{Segment}
+use Rattle.path.specs.declared.standard.Part.{Part}
 
-unfoldable pub noSegment : PathError → Segment
-noSegment error =
-    record {
-      answer = Refused error;
-      path = zeroPath;
-      «info_field» = record { start = 0; len = 0 };
-      «hop_fields» = record { start = 0; len = 0 };
-    }
+-- a segment of a path: its info field, and its run of hop fields
+pub record Fields : Type 0 where
+  pub info : Part
+  pub hops : Part
 
--- segment k: its info field, and its run of hop fields; 8 where there is none
-unfoldable pub segmentOfPath : StandardPath → ℕ → Segment
-segmentOfPath path k =
-    let m = path .«meta_header» in
-    pick (ltb k (infoFieldsCount m))
-    (record {
-      answer = Accepted;
-      path = path;
-      «info_field» = record { start = infoStart k; len = 8 };
-      «hop_fields» = record { start = hopStart m (firstHopField m k); len = segmentLengthOf m k * 12 };
-    })
-    (noSegment NoSuchField)
+-- segment k; 8 where there is none
+unfoldable pub segmentOfPath : PathMetaHeader → ℕ → Result PathError Fields
+segmentOfPath m k = do
+  require (ltb k (infoFieldsCount m)) NoSuchField
+  ok (record {
+    info = record { start = infoStart k; len = 8 };
+    hops = record { start = hopStart m (firstHopField m k); len = segmentLengthOf m k * 12 };
+  })
+
+abbrev pub nowhere : Part
+nowhere = record { start = 0; len = 0 }

@@ -1,6 +1,5 @@
 // Paths as a packet carries them: a type byte beside the bytes. Each call reads the bytes first.
 use crate::standard::Part;
-use crate::standard::PathRead;
 use crate::standard::StandardPath;
 use crate::standard::segment::Segment;
 use path_error::Answer;
@@ -13,6 +12,8 @@ use path_meta_header::Offset;
 use path_meta_header::PathMetaHeader;
 ghost use mathlib.Core.Path.{_≡_};
 ghost use lib.ListN.{length, take};
+ghost use Rattle.wire_encoding.specs.Result.{ok, refused, andThen};
+ghost use Rattle.path_meta_header.specs.MetaHeader.{offsetFound};
 ghost use Rattle.path_error.specs.declared.Answer.the-variants as answers;
 ghost use Rattle.path_error.specs.declared.PathError.the-variants as errors;
 ghost use Rattle.path.specs.Dataplane as spec;
@@ -45,7 +46,7 @@ pub struct DataplanePath {
 impl DataplaneRead {
     // A path that needs no reading: `length` bytes of it.
     fn unread(length: usize) -> DataplaneRead
-        ensures { λ r. ⌜ r ≡ spec.unread length ⌝ }
+        ensures { λ r. ⌜ r ≡ spec.dataplaneRead (ok (spec.headless length)) ⌝ }
     {
         let path = StandardPath::zero();
         DataplaneRead {
@@ -55,17 +56,33 @@ impl DataplaneRead {
         }
     }
 
-    // A standard path that was read or refused: as many bytes as it says.
-    fn standard(read: PathRead) -> DataplaneRead
-        ensures { λ r. ⌜ r ≡ spec.standardRead (read .answer) (read .path) ⌝ }
+    fn refused(error: DecodeError) -> DataplaneRead
+        ensures { λ r. ⌜ r ≡ spec.dataplaneRead (refused error) ⌝ }
     {
-        let length = read.length();
-        let answer = read.answer;
-        let path = read.path;
+        let path = StandardPath::zero();
         DataplaneRead {
-            answer,
+            answer: Decoded::Refused(error),
             path,
-            length,
+            length: 0,
+        }
+    }
+
+    // A standard path: as many bytes as its header says.
+    fn standard(bytes: &[u8]) -> DataplaneRead
+        ensures { λ r. ⌜ r ≡ spec.dataplaneRead (spec.readStandard (now (bytes .entry))) ⌝ }
+    {
+        let read = StandardPath::decode(bytes);
+        let answer = read.answer;
+        match answer {
+            Decoded::Accepted => {
+                let path = read.path;
+                DataplaneRead {
+                    answer: Decoded::Accepted,
+                    path,
+                    length: path.meta_header.encoded_path_length(),
+                }
+            }
+            Decoded::Refused(error) => DataplaneRead::refused(error),
         }
     }
 }
@@ -82,7 +99,7 @@ impl PathAnswer {
     }
 
     pub fn refused(error: PathError) -> PathAnswer
-        ensures { λ r. ⌜ r ≡ spec.answerRefused error ⌝ }
+        ensures { λ r. ⌜ r ≡ spec.pathAnswer (refused error) ⌝ }
     {
         let path = StandardPath::zero();
         PathAnswer {
@@ -91,19 +108,9 @@ impl PathAnswer {
         }
     }
 
-    // The answer of a call that leaves the path's record as it is.
-    pub fn answered(answer: Answer, path: StandardPath) -> PathAnswer
-        ensures { λ r. ⌜ r ≡ spec.answered answer path ⌝ }
-    {
-        match answer {
-            Answer::Accepted => PathAnswer::accepted(path),
-            Answer::Refused(error) => PathAnswer::refused(error),
-        }
-    }
-
     // The refusal of a path that can't be read.
     pub fn not_read(error: DecodeError) -> PathAnswer
-        ensures { λ r. ⌜ r ≡ spec.answerRefused (errors.Decode error) ⌝ }
+        ensures { λ r. ⌜ r ≡ spec.pathAnswer (refused (errors.Decode error)) ⌝ }
     {
         PathAnswer::refused(PathError::Decode(error))
     }
@@ -122,7 +129,7 @@ impl Located {
     }
 
     pub fn refused(error: PathError) -> Located
-        ensures { λ r. ⌜ r ≡ spec.notLocated error ⌝ }
+        ensures { λ r. ⌜ r ≡ spec.located (refused error) (refused error) ⌝ }
     {
         let path = StandardPath::zero();
         Located {
@@ -134,7 +141,7 @@ impl Located {
 
     // `len` bytes from an offset on.
     fn at(path: StandardPath, offset: Offset, len: usize) -> Located
-        ensures { λ r. ⌜ r ≡ spec.locatedAt path offset len ⌝ }
+        ensures { λ r. ⌜ r ≡ spec.located (ok (path .«meta_header»)) (andThen (offsetFound offset) (λ start. ok (record { start = start; len = len }))) ⌝ }
     {
         match offset {
             Offset::At(start) => Located::accepted(path, start, len),
@@ -158,20 +165,20 @@ impl DataplanePath {
 
     // Reads a path of this type: an empty one has no bytes, an opaque one is all of them.
     pub fn decode(self, bytes: &[u8]) -> DataplaneRead
-        ensures { λ r. ⌜ r ≡ spec.readDataplane (self .«path_type») (now (bytes .entry)) ⌝ }
+        ensures { λ r. ⌜ r ≡ spec.dataplaneRead (spec.readDataplane (self .«path_type») (now (bytes .entry))) ⌝ }
     {
         if self.path_type == DataplanePath::EMPTY {
             return DataplaneRead::unread(0);
         }
         if self.path_type == DataplanePath::SCION {
-            return DataplaneRead::standard(StandardPath::decode(bytes));
+            return DataplaneRead::standard(bytes);
         }
         DataplaneRead::unread(bytes.len())
     }
 
     // The path's own bytes; none where it is refused.
     pub fn raw(self, bytes: &[u8]) -> &[u8]
-        ensures { λ r. ⌜ now r ≡ take (spec.readDataplane (self .«path_type») (now (bytes .entry)) .length) (now (bytes .entry)) ⌝ }
+        ensures { λ r. ⌜ now r ≡ take (spec.dataplaneRead (spec.readDataplane (self .«path_type») (now (bytes .entry))) .length) (now (bytes .entry)) ⌝ }
     {
         let length = self.decode(bytes).length;
         &bytes[..length]
@@ -179,7 +186,7 @@ impl DataplanePath {
 
     // Reading, then the refusal of every type but 1: where the calls on standard paths begin.
     pub fn standard(self, bytes: &[u8]) -> PathAnswer
-        ensures { λ r. ⌜ r ≡ spec.standardOf (self .«path_type») (now (bytes .entry)) ⌝ }
+        ensures { λ r. ⌜ r ≡ spec.pathAnswer (spec.standard (self .«path_type») (now (bytes .entry))) ⌝ }
     {
         let read = self.decode(bytes);
         let answer = read.answer;
@@ -196,7 +203,7 @@ impl DataplanePath {
 
     // Where info field `index` lies.
     pub fn locate_info_field(self, bytes: &[u8], index: usize) -> Located
-        ensures { λ r. ⌜ r ≡ spec.infoFieldIn (self .«path_type») (now (bytes .entry)) index ⌝ }
+        ensures { λ r. ⌜ r ≡ spec.located (spec.standard (self .«path_type») (now (bytes .entry))) (spec.infoFieldIn (self .«path_type») (now (bytes .entry)) index) ⌝ }
     {
         let read = self.standard(bytes);
         let answer = read.answer;
@@ -212,7 +219,7 @@ impl DataplanePath {
 
     // Where hop field `index` lies.
     pub fn locate_hop_field(self, bytes: &[u8], index: usize) -> Located
-        ensures { λ r. ⌜ r ≡ spec.hopFieldIn (self .«path_type») (now (bytes .entry)) index ⌝ }
+        ensures { λ r. ⌜ r ≡ spec.located (spec.standard (self .«path_type») (now (bytes .entry))) (spec.hopFieldIn (self .«path_type») (now (bytes .entry)) index) ⌝ }
     {
         let read = self.standard(bytes);
         let answer = read.answer;
@@ -228,7 +235,7 @@ impl DataplanePath {
 
     // Info field `index`, as a part of the path's bytes; empty where it is refused.
     pub fn info_field(self, bytes: &[u8], index: usize) -> &[u8]
-        ensures { λ r. ⌜ now r ≡ spec.partIn (now (bytes .entry)) (spec.infoFieldIn (self .«path_type») (now (bytes .entry)) index .part) ⌝ }
+        ensures { λ r. ⌜ now r ≡ spec.partIn (now (bytes .entry)) (spec.located (spec.standard (self .«path_type») (now (bytes .entry))) (spec.infoFieldIn (self .«path_type») (now (bytes .entry)) index) .part) ⌝ }
     {
         let part = self.locate_info_field(bytes, index).part;
         let start = part.start;
@@ -238,7 +245,7 @@ impl DataplanePath {
 
     // Hop field `index`, as a part of the path's bytes; empty where it is refused.
     pub fn hop_field(self, bytes: &[u8], index: usize) -> &[u8]
-        ensures { λ r. ⌜ now r ≡ spec.partIn (now (bytes .entry)) (spec.hopFieldIn (self .«path_type») (now (bytes .entry)) index .part) ⌝ }
+        ensures { λ r. ⌜ now r ≡ spec.partIn (now (bytes .entry)) (spec.located (spec.standard (self .«path_type») (now (bytes .entry))) (spec.hopFieldIn (self .«path_type») (now (bytes .entry)) index) .part) ⌝ }
     {
         let part = self.locate_hop_field(bytes, index).part;
         let start = part.start;
@@ -248,7 +255,7 @@ impl DataplanePath {
 
     // Segment `index`: where its info field and its hop fields lie.
     pub fn segment(self, bytes: &[u8], index: usize) -> Segment
-        ensures { λ r. ⌜ r ≡ spec.segmentIn (self .«path_type») (now (bytes .entry)) index ⌝ }
+        ensures { λ r. ⌜ r ≡ spec.segment (spec.standard (self .«path_type») (now (bytes .entry))) (spec.segmentIn (self .«path_type») (now (bytes .entry)) index) ⌝ }
     {
         let read = self.standard(bytes);
         let answer = read.answer;
@@ -260,7 +267,7 @@ impl DataplanePath {
 
     // The hop fields of segment `index`, as a part of the path's bytes; empty where it is refused.
     pub fn segment_hop_fields(self, bytes: &[u8], index: usize) -> &[u8]
-        ensures { λ r. ⌜ now r ≡ spec.partIn (now (bytes .entry)) (spec.segmentIn (self .«path_type») (now (bytes .entry)) index .«hop_fields») ⌝ }
+        ensures { λ r. ⌜ now r ≡ spec.partIn (now (bytes .entry)) (spec.segment (spec.standard (self .«path_type») (now (bytes .entry))) (spec.segmentIn (self .«path_type») (now (bytes .entry)) index) .«hop_fields») ⌝ }
     {
         let part = self.segment(bytes, index).hop_fields;
         let start = part.start;

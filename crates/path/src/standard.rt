@@ -3,8 +3,9 @@ use path_error::DecodeError;
 use path_error::Decoded;
 use path_meta_header::PathMetaHeader;
 ghost use mathlib.Core.Path.{_≡_};
+ghost use Rattle.wire_encoding.specs.Result.{refused};
 ghost use Rattle.path_error.specs.declared.Decoded.the-variants as decoded;
-ghost use Rattle.path.specs.Dataplane as dataplane;
+ghost use Rattle.path_meta_header.specs.MetaHeader.{metaOf};
 ghost use Rattle.path.specs.Standard as spec;
 
 pub mod segment;
@@ -29,7 +30,7 @@ pub struct Part {
 impl StandardPath {
     // The record that stands in the place of a path that was refused, or that is not a standard path.
     pub fn zero() -> StandardPath
-        ensures { λ r. ⌜ r ≡ spec.zeroPath ⌝ }
+        ensures { λ r. ⌜ r ≡ spec.pathUnder (metaOf 0) ⌝ }
     {
         let meta_header = PathMetaHeader::from_u32(0);
         StandardPath { meta_header }
@@ -37,7 +38,7 @@ impl StandardPath {
 
     // Reads the path that begins `bytes`: its meta header, and whether its fields are all there.
     pub fn decode(bytes: &[u8]) -> PathRead
-        ensures { λ r. ⌜ r ≡ spec.readPath (now (bytes .entry)) ⌝ }
+        ensures { λ r. ⌜ r ≡ spec.pathRead (spec.readPath (now (bytes .entry))) ⌝ }
     {
         let read = PathMetaHeader::decode(bytes);
         let answer = read.answer;
@@ -64,23 +65,12 @@ impl PathRead {
     }
 
     fn refused(error: DecodeError) -> PathRead
-        ensures { λ r. ⌜ r ≡ spec.pathRefused error ⌝ }
+        ensures { λ r. ⌜ r ≡ spec.pathRead (refused error) ⌝ }
     {
         let path = StandardPath::zero();
         PathRead {
             answer: Decoded::Refused(error),
             path,
-        }
-    }
-
-    // How many bytes are the path's: as many as its meta header says, none where it was refused.
-    pub(crate) fn length(self) -> usize
-        ensures { λ r. ⌜ r ≡ dataplane.standardRead (self .answer) (self .path) .length ⌝ }
-    {
-        let answer = self.answer;
-        match answer {
-            Decoded::Accepted => self.path.meta_header.encoded_path_length(),
-            Decoded::Refused(_) => 0,
         }
     }
 }

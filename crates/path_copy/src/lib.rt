@@ -6,18 +6,13 @@ use path_error::Decoded;
 use path_error::PathError;
 use wire_encoding::write::put_slice;
 ghost use mathlib.Core.Path.{_≡_};
-ghost use lib.Dec.{eqb};
-ghost use lib.ListN.{length};
-ghost use Rattle.wire_encoding.specs.Choice.{pick};
-ghost use Rattle.path_error.specs.declared.Answer.the-variants as answers;
-ghost use Rattle.path_error.specs.declared.PathError.the-variants as errors;
-ghost use Rattle.path.specs.Dataplane as dataplane;
+ghost use Rattle.path.specs.Dataplane.{writtenAnswer, contents};
 ghost use Rattle.path_copy.specs.Copy as spec;
 
 // Copies the bytes of a path to a destination of exactly their length.
 fn copy_whole(path: StandardPath, run: &[u8], dst: &mut [u8]) -> PathAnswer
-    ensures { λ r. ⌜ r ≡ pick (eqb (length (now (dst .entry))) (length (now (run .entry)))) (record { answer = answers.Accepted; path = path }) (dataplane.answerRefused errors.InadequateBufferSize) ⌝ }
-    ensures { λ _. ⌜ now (dst .exit) ≡ pick (eqb (length (now (dst .entry))) (length (now (run .entry)))) (now (run .entry)) (now (dst .entry)) ⌝ }
+    ensures { λ r. ⌜ r ≡ writtenAnswer (spec.filled (path .«meta_header») (now (run .entry)) (now (dst .entry))) ⌝ }
+    ensures { λ _. ⌜ now (dst .exit) ≡ contents (spec.filled (path .«meta_header») (now (run .entry)) (now (dst .entry))) (now (dst .entry)) ⌝ }
 {
     if dst.len() == run.len() {
         put_slice(dst, 0, run);
@@ -28,8 +23,8 @@ fn copy_whole(path: StandardPath, run: &[u8], dst: &mut [u8]) -> PathAnswer
 
 // Copies the path to a destination of exactly its length. An empty path disregards its destination.
 pub fn copy_to_slice(path: DataplanePath, bytes: &[u8], dst: &mut [u8]) -> PathAnswer
-    ensures { λ r. ⌜ r ≡ spec.copyAnswer (path .«path_type») (now (bytes .entry)) (length (now (dst .entry))) ⌝ }
-    ensures { λ _. ⌜ now (dst .exit) ≡ spec.copied (path .«path_type») (now (bytes .entry)) (now (dst .entry)) ⌝ }
+    ensures { λ r. ⌜ r ≡ writtenAnswer (spec.copy (path .«path_type») (now (bytes .entry)) (now (dst .entry))) ⌝ }
+    ensures { λ _. ⌜ now (dst .exit) ≡ contents (spec.copy (path .«path_type») (now (bytes .entry)) (now (dst .entry))) (now (dst .entry)) ⌝ }
 {
     let read = path.decode(bytes);
     let answer = read.answer;

@@ -1,5 +1,6 @@
 -- The answers: document 01's number of each refusal, and the value that 2 and 3 carry; 0 for what is accepted.
 use Prim.Native.Nat.{ℕ}
+use Rattle.wire_encoding.specs.Result.{Result, told}
 use Rattle.path_error.specs.declared.DataplanePathErrorKind.{DataplanePathErrorKind}
 use Rattle.path_error.specs.declared.DataplanePathErrorKind.the-variants as kind
 use Rattle.path_error.specs.declared.DecodeError.{DecodeError}
@@ -10,6 +11,10 @@ use Rattle.path_error.specs.declared.Decoded.{Decoded}
 use Rattle.path_error.specs.declared.Decoded.the-variants as decoded
 use Rattle.path_error.specs.declared.Answer.{Answer}
 use Rattle.path_error.specs.declared.Answer.the-variants as answer
+use Rattle.path_error.specs.declared.EncodeError.{EncodeError}
+use Rattle.path_error.specs.declared.EncodeError.the-variants as encode
+use Rattle.path_error.specs.declared.Encoded.{Encoded}
+use Rattle.path_error.specs.declared.Encoded.the-variants as encoded
 
 abbrev pub kindNumber : DataplanePathErrorKind → ℕ
 kindNumber kind.InvalidSegmentLengths = 4
@@ -48,6 +53,13 @@ pathValue path.TooManyHopFields = 0
 pathValue path.PeeringNotOnBoth = 0
 pathValue path.AtLastHopField = 0
 
+abbrev pub encodeNumber : EncodeError → ℕ
+encodeNumber encode.NumberTooWide = 10
+encodeNumber encode.InvalidHeaderLength = 3
+encodeNumber encode.HeaderTooLarge = 12
+encodeNumber encode.PayloadTooLarge = 11
+encodeNumber encode.InadequateBufferSize = 9
+
 abbrev pub decodedNumber : Decoded → ℕ
 decodedNumber decoded.Accepted = 0
 decodedNumber (decoded.Refused error) = decodeNumber error
@@ -55,6 +67,10 @@ decodedNumber (decoded.Refused error) = decodeNumber error
 abbrev pub answerNumber : Answer → ℕ
 answerNumber answer.Accepted = 0
 answerNumber (answer.Refused error) = pathNumber error
+
+abbrev pub encodedNumber : Encoded → ℕ
+encodedNumber encoded.Done = 0
+encodedNumber (encoded.Refused error) = encodeNumber error
 
 -- 2 and 3 come with their value; it is zero for every other answer
 abbrev pub decodedValue : Decoded → ℕ
@@ -64,3 +80,14 @@ decodedValue (decoded.Refused error) = decodeValue error
 abbrev pub answerValue : Answer → ℕ
 answerValue answer.Accepted = 0
 answerValue (answer.Refused error) = pathValue error
+
+-- A RESULT AS IT IS HANDED BACK
+
+abbrev pub decodedOf : {A : Type 0} → Result DecodeError A → Decoded
+decodedOf r = told r (λ a. decoded.Accepted) (λ error. decoded.Refused error)
+
+abbrev pub answerOf : {A : Type 0} → Result PathError A → Answer
+answerOf r = told r (λ a. answer.Accepted) (λ error. answer.Refused error)
+
+unfoldable pub encodedOf : {A : Type 0} → Result EncodeError A → Encoded
+encodedOf r = told r (λ a. encoded.Done) (λ error. encoded.Refused error)

@@ -1,6 +1,6 @@
 // Why bytes or a call are refused. Document 01 numbers the refusals; `number` and `value` hand its numbers out.
 ghost use mathlib.Core.Path.{_≡_};
-ghost use Rattle.path_error.specs.Errors.{kindNumber, decodeNumber, decodeValue, pathNumber, pathValue};
+ghost use Rattle.path_error.specs.Errors.{kindNumber, decodeNumber, decodeValue, pathNumber, pathValue, encodeNumber};
 
 // What is wrong with a meta header.
 pub enum DataplanePathErrorKind {
@@ -39,6 +39,24 @@ pub enum Decoded {
 pub enum Answer {
     Accepted,
     Refused(PathError),
+}
+
+// Why headers can't be written.
+pub enum EncodeError {
+    // A number wider than its field.
+    NumberTooWide,
+    // A factor of 0.
+    InvalidHeaderLength,
+    // A factor above 255.
+    HeaderTooLarge,
+    PayloadTooLarge,
+    InadequateBufferSize,
+}
+
+// Whether headers were written: all of them, or nothing.
+pub enum Encoded {
+    Done,
+    Refused(EncodeError),
 }
 
 impl DataplanePathErrorKind {
@@ -107,6 +125,20 @@ impl PathError {
             PathError::TooManyHopFields => 0,
             PathError::PeeringNotOnBoth => 0,
             PathError::AtLastHopField => 0,
+        }
+    }
+}
+
+impl EncodeError {
+    pub fn number(self) -> u8
+        ensures { λ r. ⌜ r ≡ encodeNumber self ⌝ }
+    {
+        match self {
+            EncodeError::NumberTooWide => 10,
+            EncodeError::InvalidHeaderLength => 3,
+            EncodeError::HeaderTooLarge => 12,
+            EncodeError::PayloadTooLarge => 11,
+            EncodeError::InadequateBufferSize => 9,
         }
     }
 }

@@ -6,13 +6,19 @@ use mathlib.Core.List.{List}
 use native.Mathlib.Numerals.{add-one}
 use native.Mathlib.Omega.{arith}
 use lib.ListN.{length, getD}
+use Rattle.wire_encoding.specs.Result.{Result, ok, refused, orElse}
 use Rattle.wire_encoding.specs.BigEndian.{bigEndian, part}
 use Rattle.wire_encoding.proofs.Parts.{length-part, getD-part}
-use Rattle.path_meta_header.specs.MetaHeader.{infoFieldsCount, firstHopField, segmentLengthOf, pathLength, infoStart, hopStart}
+use Rattle.path_meta_header.specs.MetaHeader.{metaOf, infoFieldsCount, firstHopField, segmentLengthOf, pathLength, infoStart, hopStart}
 use Rattle.path_fields.specs.Fields.{infoFieldAt, hopFieldAt, expiryOffset, expiryTime}
 use Rattle.path_meta_header.specs.declared.PathMetaHeader.{PathMetaHeader}
+use Rattle.path.specs.Standard.{pathUnder}
 use Rattle.path.proofs.SegmentLaws.{inside}
-use Rattle.path_expiry.specs.Expiry.{least, expTimeAt, hopExpiry, segmentExpiry}
+use Rattle.path_expiry.specs.Expiry.{least, expTimeAt, hopExpiry, segmentExpiry, expiryFound}
+use Rattle.path_error.specs.declared.Answer.the-variants as answer
+use Rattle.path_error.specs.declared.PathError.{PathError}
+use Rattle.path_error.proofs.Told as told
+use Rattle.path_expiry.specs.declared.Expiry.{Expiry}
 
 -- one more number, as a loop takes it
 pub least-more : (f : ℕ → ℕ) (last : ℕ) → least f (last + 1) ≡ min (least f last) (f (last + 1))
@@ -61,3 +67,17 @@ module _ (bytes : List ℕ) (m : PathMetaHeader) (k : ℕ) (there : k < infoFiel
       ap (λ (n : ℕ). expiryTime time (least (expTimeAt (hopRun bytes m k) 0) n)) last
       ∙ sym (least-expiry time (expTimeAt (hopRun bytes m k) 0) (segmentLengthOf m k - 1))
       ∙ least-same _ _ (segmentLengthOf m k - 1) (λ j h. ap (expiryTime time) (byte-in-run j (omega (arith, inside bytes m k there whole .one))))
+
+-- what a caller of `expiry_time` learns
+module _ (path : Result PathError PathMetaHeader) (r : Result PathError ℕ) {call : Expiry} (is : call ≡ expiryFound path r) where
+  pub expiry-ok : call .answer ≡ answer.Accepted → r ≡ ok (call .ms)
+  unfolding expiryFound
+  expiry-ok h = told.answer-ok r 0 (ap (λ (x : Expiry). x .answer) is) (ap (λ (x : Expiry). x .ms) is) h
+
+  pub recorded : call .answer ≡ answer.Accepted → call .path ≡ pathUnder (orElse path (metaOf 0))
+  unfolding expiryFound
+  recorded h = ap (λ (x : Expiry). x .path) is ∙ rw (expiry-ok h)
+
+  pub expiry-refused : {error : PathError} → call .answer ≡ answer.Refused error → r ≡ refused error
+  unfolding expiryFound
+  expiry-refused h = told.answer-refused r (ap (λ (x : Expiry). x .answer) is) h

@@ -1,27 +1,19 @@
 -- Expiry in ms: of a hop field, of a segment, of a path; and the time left.
-use Prim.Native.Nat.{ℕ, _+_}
+use Prim.Native.Nat.{ℕ, zero, suc, _+_, _*_, _-_, min}
 use mathlib.Core.List.{List}
 use lib.ListN.{getD}
-use lib.IntN.{pos, subℕ}
+use lib.IntN.{ℤ, pos, subℕ}
 use lib.Dec.{ltb, leb}
-use Rattle.wire_encoding.specs.Choice.{pick}
+use Rattle.wire_encoding.specs.Result.{Result, ok, require, _>>_, _>>=_, orElse}
 use Rattle.path_meta_header.specs.MetaHeader.{infoFieldsCount, firstHopField, segmentLengthOf, infoStart, hopStart}
-use Rattle.path_fields.specs.Fields.{infoFieldAt, hopFieldAt}
 use Rattle.path_meta_header.specs.declared.PathMetaHeader.{PathMetaHeader}
-use Rattle.path_error.specs.declared.Answer.the-variants.{Accepted, Refused}
+use Rattle.path_fields.specs.Fields.{infoFieldAt, hopFieldAt, expiryTime}
+use Rattle.path_error.specs.Errors.{answerOf}
 use Rattle.path_error.specs.declared.PathError.{PathError}
 use Rattle.path_error.specs.declared.PathError.the-variants.{NoSuchField, NumberTooWide}
-use Rattle.path.specs.Standard.{zeroPath}
-use Rattle.path.specs.declared.standard.StandardPath.{StandardPath}
+use Rattle.path.specs.Dataplane.{standard, beside}
 use Rattle.path_expiry.specs.declared.Expiry.{Expiry}
 use Rattle.path_expiry.specs.declared.TimeLeft.{TimeLeft}
-use Prim.Native.Nat.{ℕ, zero, suc, _+_, _*_, _-_, min}
-use lib.ListN.{getD}
-use lib.Dec.{ltb}
-use Rattle.path_fields.specs.Fields.{infoFieldAt, hopFieldAt, expiryTime}
-use Rattle.path_error.specs.declared.PathError.the-variants.{NoSuchField}
-use Rattle.path.specs.Standard.{zeroPath}
-use Rattle.path.specs.Dataplane.{carriedOut, onStandard}
 
 -- the least of f 0, f 1, .. f last
 unfoldable pub least : (ℕ → ℕ) → ℕ → ℕ
@@ -47,30 +39,28 @@ pathExpiry bytes m = least (segmentExpiry bytes m) (infoFieldsCount m - 1)
 
 -- THE CALLS
 
-unfoldable pub noExpiry : PathError → Expiry
-noExpiry error = record { answer = Refused error; path = zeroPath; ms = 0 }
+-- of segment k; 8 where there is none
+unfoldable pub segmentExpiryIn : ℕ → List ℕ → ℕ → Result PathError ℕ
+segmentExpiryIn type bytes k = do
+  m ← standard type bytes
+  require (ltb k (infoFieldsCount m)) NoSuchField
+  ok (segmentExpiry bytes m k)
 
-unfoldable pub segmentExpiryIn : ℕ → List ℕ → ℕ → Expiry
-segmentExpiryIn type bytes k =
-    onStandard type bytes noExpiry
-    (λ path. pick (ltb k (infoFieldsCount (path .«meta_header»)))
-    (record { answer = Accepted; path = path; ms = segmentExpiry bytes (path .«meta_header») k })
-    (noExpiry NoSuchField))
+unfoldable pub expiryIn : ℕ → List ℕ → Result PathError ℕ
+expiryIn type bytes = do
+  m ← standard type bytes
+  ok (pathExpiry bytes m)
 
-unfoldable pub expiryIn : ℕ → List ℕ → Expiry
-expiryIn type bytes =
-    onStandard type bytes noExpiry (λ path. record { answer = Accepted; path = path; ms = pathExpiry bytes (path .«meta_header») })
+-- what is left of it at a time, which may be below zero; 10 for a time above its bound
+unfoldable pub timeLeftIn : ℕ → List ℕ → ℕ → Result PathError ℤ
+timeLeftIn type bytes now = do
+  expiry ← expiryIn type bytes
+  require (leb now 9000000000000) NumberTooWide
+  ok (subℕ expiry now)
 
-unfoldable pub noTimeLeft : PathError → TimeLeft
-noTimeLeft error = record { answer = Refused error; path = zeroPath; ms = pos 0 }
+-- what is handed back, beside the record of the path: all zero where it is refused
+unfoldable pub expiryFound : Result PathError PathMetaHeader → Result PathError ℕ → Expiry
+expiryFound path r = record { answer = answerOf r; path = beside path r; ms = orElse r 0 }
 
--- 10 for a time above its bound, else expiry − now, which may be below zero
-unfoldable pub timeLeftAt : StandardPath → ℕ → ℕ → TimeLeft
-timeLeftAt path expiry now =
-    pick (leb now 9000000000000) (record { answer = Accepted; path = path; ms = subℕ expiry now }) (noTimeLeft NumberTooWide)
-
--- after the expiry: what refuses that refuses this
-unfoldable pub timeLeftIn : ℕ → List ℕ → ℕ → TimeLeft
-timeLeftIn type bytes now =
-    let expiry = expiryIn type bytes in
-    carriedOut (expiry .answer) (expiry .path) noTimeLeft (λ path. timeLeftAt path (expiry .ms) now)
+unfoldable pub timeLeftFound : Result PathError PathMetaHeader → Result PathError ℤ → TimeLeft
+timeLeftFound path r = record { answer = answerOf r; path = beside path r; ms = orElse r (pos 0) }

@@ -13,8 +13,10 @@ ghost use Prim.Native.Nat.{_+_, _-_, _/_, _≤_, _<_, min};
 ghost use lib.ListN.{length};
 ghost use lib.IntN.{subℕ};
 ghost use Rattle.wire_encoding.specs.BigEndian.{bigEndian};
+ghost use Rattle.wire_encoding.specs.Result.{refused};
 ghost use Rattle.path_meta_header.specs.MetaHeader as meta;
 ghost use Rattle.path_error.specs.declared.Answer.the-variants as answers;
+ghost use Rattle.path.specs.Dataplane.{standard};
 ghost use Rattle.path_expiry.specs.Expiry as spec;
 
 // An expiry in ms since 1970; all zero where it was refused.
@@ -43,7 +45,7 @@ impl Expiry {
     }
 
     fn refused(error: PathError) -> Expiry
-        ensures { λ r. ⌜ r ≡ spec.noExpiry error ⌝ }
+        ensures { λ r. ⌜ r ≡ spec.expiryFound (refused error) (refused error) ⌝ }
     {
         let path = StandardPath::zero();
         Expiry {
@@ -66,7 +68,7 @@ impl TimeLeft {
     }
 
     fn refused(error: PathError) -> TimeLeft
-        ensures { λ r. ⌜ r ≡ spec.noTimeLeft error ⌝ }
+        ensures { λ r. ⌜ r ≡ spec.timeLeftFound (refused error) (refused error) ⌝ }
     {
         let path = StandardPath::zero();
         TimeLeft {
@@ -153,7 +155,7 @@ fn left(expiry: u64, at: u64) -> i64
 
 // The expiry of segment `index`: the least of its hop fields'.
 pub fn segment_expiry_time(dataplane: DataplanePath, bytes: &[u8], index: usize) -> Expiry
-    ensures { λ r. ⌜ r ≡ spec.segmentExpiryIn (dataplane .«path_type») (now (bytes .entry)) index ⌝ }
+    ensures { λ r. ⌜ r ≡ spec.expiryFound (standard (dataplane .«path_type») (now (bytes .entry))) (spec.segmentExpiryIn (dataplane .«path_type») (now (bytes .entry)) index) ⌝ }
 {
     let read = dataplane.standard(bytes);
     let answer = read.answer;
@@ -171,7 +173,7 @@ pub fn segment_expiry_time(dataplane: DataplanePath, bytes: &[u8], index: usize)
 
 // The expiry of the path: the least of its segments'.
 pub fn expiry_time(dataplane: DataplanePath, bytes: &[u8]) -> Expiry
-    ensures { λ r. ⌜ r ≡ spec.expiryIn (dataplane .«path_type») (now (bytes .entry)) ⌝ }
+    ensures { λ r. ⌜ r ≡ spec.expiryFound (standard (dataplane .«path_type») (now (bytes .entry))) (spec.expiryIn (dataplane .«path_type») (now (bytes .entry))) ⌝ }
     ensures { λ r. ⌜ r .ms ≤ 4295053695000 ⌝ }
 {
     let read = dataplane.standard(bytes);
@@ -187,7 +189,7 @@ pub fn expiry_time(dataplane: DataplanePath, bytes: &[u8]) -> Expiry
 
 // The path's expiry less `at`, a time of 0 to 9,000,000,000,000 ms.
 pub fn time_left(dataplane: DataplanePath, bytes: &[u8], at: u64) -> TimeLeft
-    ensures { λ r. ⌜ r ≡ spec.timeLeftIn (dataplane .«path_type») (now (bytes .entry)) at ⌝ }
+    ensures { λ r. ⌜ r ≡ spec.timeLeftFound (standard (dataplane .«path_type») (now (bytes .entry))) (spec.timeLeftIn (dataplane .«path_type») (now (bytes .entry)) at) ⌝ }
 {
     let expiry = expiry_time(dataplane, bytes);
     let answer = expiry.answer;

@@ -1,10 +1,9 @@
 -- The draft's Info Field (P, C, RSV, Acc, Timestamp) and Hop Field (I, E, ExpTime, ConsIngress, ConsEgress, MAC), read at an offset.
 use Prim.Native.Nat.{ℕ, _+_, _*_}
-use mathlib.Core.Bool.{Bool}
+use mathlib.Core.Bool.{Bool, cond}
 use mathlib.Core.List.{List}
 use lib.ListN.{length, getD, replicate}
 use lib.Dec.{eqb}
-use Rattle.wire_encoding.specs.Choice.{pick}
 use Rattle.bits.specs.Bits.{bitOf, withBit}
 use Rattle.wire_encoding.specs.BigEndian.{bigEndian, part}
 use Rattle.path_fields.specs.declared.InfoField.{InfoField}
@@ -32,7 +31,7 @@ zeroInfoField = record { flags = 0; reserved = 0; accumulator = 0; timestamp = 0
 -- an info field of a part: 9 unless the part has 8 bytes
 unfoldable pub newInfoField : List ℕ → InfoFieldRead
 newInfoField bytes =
-    pick (eqb (length bytes) 8) (record { answer = Accepted; field = infoFieldAt bytes 0 })
+    cond (eqb (length bytes) 8) (record { answer = Accepted; field = infoFieldAt bytes 0 })
     (record { answer = Refused InadequateBufferSize; field = zeroInfoField })
 
 -- C, bit 0: in construction direction; P, bit 1: peering
@@ -68,7 +67,7 @@ zeroHopField = record { flags = 0; «exp_time» = 0; «cons_ingress» = 0; «con
 -- a hop field of a part: 9 unless the part has 12 bytes
 unfoldable pub newHopField : List ℕ → HopFieldRead
 newHopField bytes =
-    pick (eqb (length bytes) 12) (record { answer = Accepted; field = hopFieldAt bytes 0 })
+    cond (eqb (length bytes) 12) (record { answer = Accepted; field = hopFieldAt bytes 0 })
     (record { answer = Refused InadequateBufferSize; field = zeroHopField })
 
 unfoldable pub withFlags : ℕ → HopField → HopField
@@ -87,14 +86,14 @@ withAlert bit on hop = withFlags (withBit bit on (hop .flags)) hop
 
 -- interface 0 means none
 unfoldable pub interfaceOf : ℕ → Interface
-interfaceOf number = pick (eqb number 0) interface.None (interface.Id number)
+interfaceOf number = cond (eqb number 0) interface.None (interface.Id number)
 
 -- direction clear exchanges ingress and egress
 unfoldable pub ingressInterface : InfoField → HopField → Interface
-ingressInterface info hop = interfaceOf (pick (constructedDir info) (hop .«cons_ingress») (hop .«cons_egress»))
+ingressInterface info hop = interfaceOf (cond (constructedDir info) (hop .«cons_ingress») (hop .«cons_egress»))
 
 unfoldable pub egressInterface : InfoField → HopField → Interface
-egressInterface info hop = interfaceOf (pick (constructedDir info) (hop .«cons_egress») (hop .«cons_ingress»))
+egressInterface info hop = interfaceOf (cond (constructedDir info) (hop .«cons_egress») (hop .«cons_ingress»))
 
 -- in ms: 337,500 · (1 + ExpTime), a 256th of a day for each unit, and Timestamp · 1,000 more
 unfoldable pub expiryOffset : ℕ → ℕ

@@ -4,8 +4,11 @@ use Prim.Native.Nat.{ℕ}
 use mathlib.Core.Path.{_≡_, refl}
 use mathlib.Core.List.{List, [], _∷_, _++_}
 use lib.ListN.{replicate, take}
-use Rattle.wire_encoding.specs.BigEndian.{bigEndian, numberAt, room}
-use Rattle.path_error.specs.Errors.{answerNumber}
+use Rattle.wire_encoding.specs.BigEndian.{bigEndian, room}
+use Rattle.wire_encoding.specs.Result.{refused, orElse}
+use Rattle.path_error.specs.declared.PathError.the-variants.{Decode, NoSuchField}
+use Rattle.path_error.specs.declared.DecodeError.the-variants.{PacketEmptyOrTruncated}
+use Rattle.path.specs.Segment.{nowhere}
 use Rattle.path_meta_header.specs.MetaHeader as meta
 use Rattle.path.specs.Standard as standard
 use Rattle.path.specs.Dataplane as dataplane
@@ -17,14 +20,10 @@ abbrev path : List ℕ
 path = (0x00 ∷ 0x00 ∷ 0x10 ∷ 0x80 ∷ []) ++ (replicate 16 0 ++ ((a ++ (b ++ c)) ++ (0xFF ∷ [])))
 
 -- after two info fields; 8 for a path of another type, 1 for one cut short
-pub path-run : (dataplane.partIn path (runs.located 1 path .part) ≡ a ++ (b ++ c))
-    × ((answerNumber (runs.located 2 path .answer) ≡ 8)
-    × ((dataplane.partIn path (runs.located 2 path .part) ≡ [])
-    × (answerNumber (runs.located 1 (take 55 path) .answer) ≡ 1)))
-unfolding bigEndian numberAt room runs.located
+pub path-run : (dataplane.partIn path (orElse (runs.hopFieldsIn 1 path) nowhere) ≡ a ++ (b ++ c))
+    × ((runs.hopFieldsIn 2 path ≡ refused NoSuchField)
+    × (runs.hopFieldsIn 1 (take 55 path) ≡ refused (Decode PacketEmptyOrTruncated)))
+unfolding bigEndian room runs.hopFieldsIn
     meta.nthField meta.metaOf meta.infoFieldsCount meta.hopFieldsCount meta.segmentOf meta.pathLength meta.lengthsValid meta.infoValid meta.hopValid
-    meta.firstRefusal meta.checked meta.settled meta.metaRead meta.readMeta
-    standard.complete standard.pathRefused standard.readPath
-    dataplane.unread dataplane.standardRead dataplane.readDataplane dataplane.answerRefused dataplane.standardAnswer dataplane.standardOf
-    dataplane.carriedOut dataplane.onStandard dataplane.notLocated
-path-run = (refl, (refl, (refl, refl)))
+    meta.checked meta.readMeta standard.readPath dataplane.readDataplane dataplane.standard
+path-run = (refl, (refl, refl))

@@ -1,38 +1,33 @@
 -- The runs of a path: where its hop fields lie, and that hop field j of a run is the path's own.
 use Prim.Native.Nat.{ℕ, _*_, _+_, _<_}
-use mathlib.Core.List.{List}
-use Rattle.wire_encoding.specs.BigEndian.{part}
-use Rattle.path_meta_header.specs.MetaHeader.{hopFieldsCount, firstHopField, segmentLengthOf, hopStart}
-use Rattle.path_error.specs.declared.Answer.the-variants.{Accepted}
-use Rattle.path.specs.Dataplane.{onStandard, notLocated, standardOf, segmentIn, hopFieldIn, partIn}
-use Rattle.path.specs.declared.dataplane.Located.{Located}
 use mathlib.Core.Path.{_≡_}
+use mathlib.Core.List.{List}
+use Rattle.wire_encoding.specs.Result.{Result, ok, _>>=_, orElse}
+use Rattle.path_meta_header.specs.MetaHeader.{hopFieldsCount, firstHopField, segmentLengthOf, hopStart}
+use Rattle.path_meta_header.specs.declared.PathMetaHeader.{PathMetaHeader}
+use Rattle.path_error.specs.declared.PathError.{PathError}
+use Rattle.path.specs.Segment.{Fields, nowhere}
+use Rattle.path.specs.Dataplane.{standard, segmentIn, hopFieldIn, partIn}
+use Rattle.path.specs.declared.standard.Part.{Part}
 use Rattle.hop_fields.specs.Run.{count, hopField}
 
 -- where all hop fields of a standard path lie: reading, then 8 for every other type
-unfoldable pub located : ℕ → List ℕ → Located
-located type bytes =
-    onStandard type bytes notLocated
-    (λ path.
-    record { answer = Accepted; path = path; part = record { start = hopStart (path .«meta_header») 0; len = hopFieldsCount (path .«meta_header») * 12 } })
+unfoldable pub hopFieldsIn : ℕ → List ℕ → Result PathError Part
+hopFieldsIn type bytes = do
+  m ← standard type bytes
+  ok (record { start = hopStart m 0; len = hopFieldsCount m * 12 })
 
 -- THE RUNS OF A PATH: hop field j of a segment's run, and of the whole path's, is the path's own at its place
 
-pub record SegmentRun (type : ℕ) (bytes : List ℕ) (k : ℕ) : Type 0 where
-  pub count : count (partIn bytes (segmentIn type bytes k .«hop_fields»)) ≡ segmentLengthOf (segmentIn type bytes k .path .«meta_header») k
-  pub hop-field :
-      (j : ℕ) → j < segmentLengthOf (segmentIn type bytes k .path .«meta_header») k →
-      hopField (partIn bytes (segmentIn type bytes k .«hop_fields»)) j
-      ≡ partIn bytes (hopFieldIn type bytes (firstHopField (segmentIn type bytes k .path .«meta_header») k + j) .part)
+-- the part of bytes is a run of n hop fields, and each is the path's own, from hop field `first` on
+pub record Run (type : ℕ) (bytes : List ℕ) (part : Part) (first n : ℕ) : Type 0 where
+  pub count : count (partIn bytes part) ≡ n
+  pub hop-field : (j : ℕ) → j < n → hopField (partIn bytes part) j ≡ partIn bytes (orElse (hopFieldIn type bytes (first + j)) nowhere)
 
 unfoldable pub SegmentRuns : Type 0
-SegmentRuns = (type : ℕ) (bytes : List ℕ) (k : ℕ) → segmentIn type bytes k .answer ≡ Accepted → SegmentRun type bytes k
-
-pub record PathRun (type : ℕ) (bytes : List ℕ) : Type 0 where
-  pub count : count (partIn bytes (located type bytes .part)) ≡ hopFieldsCount (standardOf type bytes .path .«meta_header»)
-  pub hop-field :
-      (j : ℕ) → j < hopFieldsCount (standardOf type bytes .path .«meta_header») →
-      hopField (partIn bytes (located type bytes .part)) j ≡ partIn bytes (hopFieldIn type bytes j .part)
+SegmentRuns = (type : ℕ) (bytes : List ℕ) (k : ℕ) (m : PathMetaHeader) (segment : Fields) → standard type bytes ≡ ok m → segmentIn type bytes k ≡ ok segment
+    → Run type bytes (segment .hops) (firstHopField m k) (segmentLengthOf m k)
 
 unfoldable pub PathRuns : Type 0
-PathRuns = (type : ℕ) (bytes : List ℕ) → standardOf type bytes .answer ≡ Accepted → PathRun type bytes
+PathRuns = (type : ℕ) (bytes : List ℕ) (m : PathMetaHeader) (run : Part) → standard type bytes ≡ ok m → hopFieldsIn type bytes ≡ ok run
+    → Run type bytes run 0 (hopFieldsCount m)

@@ -6,12 +6,12 @@ use path_fields::HopField;
 use path_fields::InfoField;
 use path_meta_header::PathMetaHeader;
 ghost use mathlib.Core.Path.{_≡_};
-ghost use Rattle.path.specs.Dataplane.{partIn};
+ghost use Rattle.path.specs.Dataplane.{standard, located, partIn};
 ghost use Rattle.path_hop_fields.specs.PathRuns as spec;
 
 // Where the hop fields of a standard path lie, all of them.
 pub fn locate(path: DataplanePath, bytes: &[u8]) -> Located
-    ensures { λ r. ⌜ r ≡ spec.located (path .«path_type») (now (bytes .entry)) ⌝ }
+    ensures { λ r. ⌜ r ≡ located (standard (path .«path_type») (now (bytes .entry))) (spec.hopFieldsIn (path .«path_type») (now (bytes .entry))) ⌝ }
 {
     let read = path.standard(bytes);
     let answer = read.answer;
@@ -33,7 +33,7 @@ pub fn locate(path: DataplanePath, bytes: &[u8]) -> Located
 
 // The hop fields of a standard path, all of them, as a part of its bytes; empty where `locate` refuses.
 pub fn hop_fields(path: DataplanePath, bytes: &[u8]) -> &[u8]
-    ensures { λ r. ⌜ now r ≡ partIn (now (bytes .entry)) (spec.located (path .«path_type») (now (bytes .entry)) .part) ⌝ }
+    ensures { λ r. ⌜ now r ≡ partIn (now (bytes .entry)) (located (standard (path .«path_type») (now (bytes .entry))) (spec.hopFieldsIn (path .«path_type») (now (bytes .entry))) .part) ⌝ }
 {
     let part = locate(path, bytes).part;
     let start = part.start;

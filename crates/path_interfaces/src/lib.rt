@@ -12,13 +12,14 @@ use path_fields::Interface;
 use path_meta_header::HopFieldOf;
 use path_meta_header::PathMetaHeader;
 ghost use mathlib.Core.Path.{_≡_};
-ghost use mathlib.Core.Bool.{true};
+ghost use mathlib.Core.Bool.{true, cond};
 ghost use Prim.Native.Nat.{_≤_};
 ghost use lib.ListN.{length};
-ghost use Rattle.wire_encoding.specs.Choice.{pick};
+ghost use Rattle.wire_encoding.specs.Result.{ok, refused};
 ghost use Rattle.bits.specs.Bits.{withBit};
 ghost use Rattle.path_meta_header.specs.MetaHeader as meta;
 ghost use Rattle.path_error.specs.declared.Answer.the-variants as answers;
+ghost use Rattle.path.specs.Dataplane.{standard, writtenAnswer, contents};
 ghost use Rattle.path_interfaces.specs.Interfaces as spec;
 
 // The number of interfaces; all zero where it was refused.
@@ -49,7 +50,7 @@ impl InterfaceCount {
     }
 
     fn refused(error: PathError) -> InterfaceCount
-        ensures { λ r. ⌜ r ≡ spec.noCount error ⌝ }
+        ensures { λ r. ⌜ r ≡ spec.interfaceCount (refused error) (refused error) ⌝ }
     {
         let path = StandardPath::zero();
         InterfaceCount {
@@ -73,7 +74,7 @@ impl InterfaceAt {
     }
 
     fn refused(error: PathError) -> InterfaceAt
-        ensures { λ r. ⌜ r ≡ spec.noInterface error ⌝ }
+        ensures { λ r. ⌜ r ≡ spec.interfaceFound (refused error) (refused error) ⌝ }
     {
         let path = StandardPath::zero();
         InterfaceAt {
@@ -108,7 +109,7 @@ fn interface_at(bytes: &[u8], meta_header: PathMetaHeader, hop: usize, index: us
 // Interface `index` of a path that was read, and its hop field.
 fn interface_of(bytes: &[u8], path: StandardPath, index: usize) -> InterfaceAt
     requires { ⌜ (meta.lengthsValid (path .«meta_header») ≡ true) × (meta.pathLength (path .«meta_header») ≤ length (now bytes)) ⌝ }
-    ensures { λ r. ⌜ r ≡ spec.interfaceFound (now (bytes .entry)) path (meta.hopFieldOf (path .«meta_header») index) index ⌝ }
+    ensures { λ r. ⌜ r ≡ spec.interfaceFound (ok (path .«meta_header»)) (spec.interfaceOf (now (bytes .entry)) index (path .«meta_header»)) ⌝ }
 {
     match path.meta_header.hop_field_index_for_interface(index) {
         HopFieldOf::Index(hop) => InterfaceAt::accepted(
@@ -122,7 +123,7 @@ fn interface_of(bytes: &[u8], path: StandardPath, index: usize) -> InterfaceAt
 
 // The number of interfaces on the path.
 pub fn interfaces_count(dataplane: DataplanePath, bytes: &[u8]) -> InterfaceCount
-    ensures { λ r. ⌜ r ≡ spec.interfacesIn (dataplane .«path_type») (now (bytes .entry)) ⌝ }
+    ensures { λ r. ⌜ r ≡ spec.interfaceCount (standard (dataplane .«path_type») (now (bytes .entry))) (spec.interfacesIn (dataplane .«path_type») (now (bytes .entry))) ⌝ }
 {
     let read = dataplane.standard(bytes);
     let answer = read.answer;
@@ -134,7 +135,7 @@ pub fn interfaces_count(dataplane: DataplanePath, bytes: &[u8]) -> InterfaceCoun
 
 // Interface `index` in the order of travel, and its hop field.
 pub fn interface(dataplane: DataplanePath, bytes: &[u8], index: usize) -> InterfaceAt
-    ensures { λ r. ⌜ r ≡ spec.interfaceIn (dataplane .«path_type») (now (bytes .entry)) index ⌝ }
+    ensures { λ r. ⌜ r ≡ spec.interfaceFound (standard (dataplane .«path_type») (now (bytes .entry))) (spec.interfaceIn (dataplane .«path_type») (now (bytes .entry)) index) ⌝ }
 {
     let read = dataplane.standard(bytes);
     let answer = read.answer;
@@ -146,7 +147,7 @@ pub fn interface(dataplane: DataplanePath, bytes: &[u8], index: usize) -> Interf
 
 // The flags of a hop field with its ingress or its egress alert flag set or cleared.
 fn with_alert(flags: u8, ingress: bool, enable: bool) -> u8
-    ensures { λ r. ⌜ r ≡ withBit (pick ingress 1 0) enable flags ⌝ }
+    ensures { λ r. ⌜ r ≡ withBit (cond ingress 1 0) enable flags ⌝ }
 {
     if ingress {
         return with_bit_1(flags, enable);
@@ -162,8 +163,8 @@ fn set_alert(
     ingress: bool,
     enable: bool,
 ) -> PathAnswer
-    ensures { λ r. ⌜ r ≡ spec.alertAnswer (dataplane .«path_type») (now (bytes .entry)) index ⌝ }
-    ensures { λ _. ⌜ now (bytes .exit) ≡ spec.alerted (pick ingress 1 0) enable (dataplane .«path_type») (now (bytes .entry)) index ⌝ }
+    ensures { λ r. ⌜ r ≡ writtenAnswer (spec.alerted (cond ingress 1 0) enable (dataplane .«path_type») (now (bytes .entry)) index) ⌝ }
+    ensures { λ _. ⌜ now (bytes .exit) ≡ contents (spec.alerted (cond ingress 1 0) enable (dataplane .«path_type») (now (bytes .entry)) index) (now (bytes .entry)) ⌝ }
 {
     let located = dataplane.locate_hop_field(bytes, index);
     let answer = located.answer;
@@ -185,8 +186,8 @@ pub fn set_cons_ingress_router_alert(
     index: usize,
     enable: bool,
 ) -> PathAnswer
-    ensures { λ r. ⌜ r ≡ spec.alertAnswer (dataplane .«path_type») (now (bytes .entry)) index ⌝ }
-    ensures { λ _. ⌜ now (bytes .exit) ≡ spec.alerted 1 enable (dataplane .«path_type») (now (bytes .entry)) index ⌝ }
+    ensures { λ r. ⌜ r ≡ writtenAnswer (spec.alerted 1 enable (dataplane .«path_type») (now (bytes .entry)) index) ⌝ }
+    ensures { λ _. ⌜ now (bytes .exit) ≡ contents (spec.alerted 1 enable (dataplane .«path_type») (now (bytes .entry)) index) (now (bytes .entry)) ⌝ }
 {
     set_alert(dataplane, bytes, index, true, enable)
 }
@@ -198,8 +199,8 @@ pub fn set_cons_egress_router_alert(
     index: usize,
     enable: bool,
 ) -> PathAnswer
-    ensures { λ r. ⌜ r ≡ spec.alertAnswer (dataplane .«path_type») (now (bytes .entry)) index ⌝ }
-    ensures { λ _. ⌜ now (bytes .exit) ≡ spec.alerted 0 enable (dataplane .«path_type») (now (bytes .entry)) index ⌝ }
+    ensures { λ r. ⌜ r ≡ writtenAnswer (spec.alerted 0 enable (dataplane .«path_type») (now (bytes .entry)) index) ⌝ }
+    ensures { λ _. ⌜ now (bytes .exit) ≡ contents (spec.alerted 0 enable (dataplane .«path_type») (now (bytes .entry)) index) (now (bytes .entry)) ⌝ }
 {
     set_alert(dataplane, bytes, index, false, enable)
 }

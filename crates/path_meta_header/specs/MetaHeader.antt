@@ -1,19 +1,21 @@
 -- The draft's Path Meta Header: CurrINF (2 bits), CurrHF (6), RSV (6), Seg0Len, Seg1Len, Seg2Len (6 each); and what reading one finds.
 use Prim.Native.Nat.{ℕ, _+_, _*_, _-_, _/_, _%_, _^_}
 use mathlib.Core.List.{List, [], _∷_}
-use mathlib.Core.Bool.{Bool, true, false}
+use mathlib.Core.Bool.{Bool, cond, not, _&&_, _||_}
 use lib.ListN.{getD}
-use lib.Dec.{leb, ltb, eqb}
-use Rattle.wire_encoding.specs.Choice.{pick, Answer, value, refused}
-use Rattle.wire_encoding.specs.BigEndian.{numberAt}
+use lib.Dec.{ltb, eqb}
+use Rattle.wire_encoding.specs.Result.{Result, ok, refused, require, _>>_, orElse}
+use Rattle.wire_encoding.specs.BigEndian.{bigEndian, room}
 use Rattle.path_meta_header.specs.declared.PathMetaHeader.{PathMetaHeader}
 use Rattle.path_meta_header.specs.declared.MetaRead.{MetaRead}
 use Rattle.path_meta_header.specs.declared.Offset.{Offset}
 use Rattle.path_meta_header.specs.declared.Offset.the-variants as offset
 use Rattle.path_meta_header.specs.declared.HopFieldOf.{HopFieldOf}
 use Rattle.path_meta_header.specs.declared.HopFieldOf.the-variants as hop
-use Rattle.path_error.specs.declared.Decoded.{Decoded}
-use Rattle.path_error.specs.declared.Decoded.the-variants.{Accepted, Refused}
+use Rattle.path_error.specs.Errors.{decodedOf}
+use Rattle.path_error.specs.declared.PathError.{PathError}
+use Rattle.path_error.specs.declared.PathError.the-variants as error
+use Rattle.path_error.specs.declared.DecodeError.{DecodeError}
 use Rattle.path_error.specs.declared.DecodeError.the-variants.{PacketEmptyOrTruncated, InvalidPath}
 use Rattle.path_error.specs.declared.DataplanePathErrorKind.the-variants.{
   InvalidSegmentLengths,
@@ -42,7 +44,7 @@ segmentLength m k = getD (m .«segment_lengths») k 0
 -- I, the number of info fields: the lengths before the first zero
 unfoldable pub infoFieldsCount : PathMetaHeader → ℕ
 infoFieldsCount m =
-    pick (eqb (segmentLength m 0) 0) 0 (pick (eqb (segmentLength m 1) 0) 1 (pick (eqb (segmentLength m 2) 0) 2 3))
+    cond (eqb (segmentLength m 0) 0) 0 (cond (eqb (segmentLength m 1) 0) 1 (cond (eqb (segmentLength m 2) 0) 2 3))
 
 -- N, the number of hop fields: s0 + s1 + s2
 unfoldable pub hopFieldsCount : PathMetaHeader → ℕ
@@ -50,14 +52,14 @@ hopFieldsCount m = segmentLength m 0 + segmentLength m 1 + segmentLength m 2
 
 -- the segment in which hop field j lies
 unfoldable pub segmentOf : PathMetaHeader → ℕ → ℕ
-segmentOf m j = pick (ltb j (segmentLength m 0)) 0 (pick (ltb j (segmentLength m 0 + segmentLength m 1)) 1 2)
+segmentOf m j = cond (ltb j (segmentLength m 0)) 0 (cond (ltb j (segmentLength m 0 + segmentLength m 1)) 1 2)
 
 -- the index of the first hop field of segment k, and its number of hop fields
 unfoldable pub firstHopField : PathMetaHeader → ℕ → ℕ
-firstHopField m k = pick (eqb k 0) 0 (pick (eqb k 1) (segmentLength m 0) (segmentLength m 0 + segmentLength m 1))
+firstHopField m k = cond (eqb k 0) 0 (cond (eqb k 1) (segmentLength m 0) (segmentLength m 0 + segmentLength m 1))
 
 unfoldable pub segmentLengthOf : PathMetaHeader → ℕ → ℕ
-segmentLengthOf m k = pick (eqb k 0) (segmentLength m 0) (pick (eqb k 1) (segmentLength m 1) (segmentLength m 2))
+segmentLengthOf m k = cond (eqb k 0) (segmentLength m 0) (cond (eqb k 1) (segmentLength m 1) (segmentLength m 2))
 
 -- where info field k and hop field j start
 abbrev pub infoStart : ℕ → ℕ
@@ -71,11 +73,19 @@ unfoldable pub pathLength : PathMetaHeader → ℕ
 pathLength m = hopStart m (hopFieldsCount m)
 
 -- the same starts, 8 for a field that isn't there
-unfoldable pub infoFieldOffset : PathMetaHeader → ℕ → Offset
-infoFieldOffset m k = pick (ltb k (infoFieldsCount m)) (offset.At (infoStart k)) offset.NoSuchField
+unfoldable pub infoFieldOffset : PathMetaHeader → ℕ → Result PathError ℕ
+infoFieldOffset m k = do
+  require (ltb k (infoFieldsCount m)) error.NoSuchField
+  ok (infoStart k)
 
-unfoldable pub hopFieldOffset : PathMetaHeader → ℕ → Offset
-hopFieldOffset m j = pick (ltb j (hopFieldsCount m)) (offset.At (hopStart m j)) offset.NoSuchField
+unfoldable pub hopFieldOffset : PathMetaHeader → ℕ → Result PathError ℕ
+hopFieldOffset m j = do
+  require (ltb j (hopFieldsCount m)) error.NoSuchField
+  ok (hopStart m j)
+
+abbrev pub offsetFound : Offset → Result PathError ℕ
+offsetFound (offset.At start) = ok start
+offsetFound offset.NoSuchField = refused error.NoSuchField
 
 -- 2 · (N − I) interfaces: a segment of s hop fields has s − 1 links, and each link two interfaces
 unfoldable pub interfacesCount : PathMetaHeader → ℕ
@@ -83,45 +93,46 @@ interfacesCount m = (hopFieldsCount m - infoFieldsCount m) * 2
 
 -- the segment of link l, where links are counted along the path; link l of segment k joins hop fields l + k and l + k + 1
 unfoldable pub segmentOfLink : PathMetaHeader → ℕ → ℕ
-segmentOfLink m l = pick (ltb (l + 1) (segmentLength m 0)) 0 (pick (ltb (l + 2) (segmentLength m 0 + segmentLength m 1)) 1 2)
+segmentOfLink m l = cond (ltb (l + 1) (segmentLength m 0)) 0 (cond (ltb (l + 2) (segmentLength m 0 + segmentLength m 1)) 1 2)
 
--- interface i is the first of link i / 2 if i is even, else the second
-unfoldable pub hopFieldOf : PathMetaHeader → ℕ → HopFieldOf
-hopFieldOf m i = pick (leb (interfacesCount m) i) hop.NoSuchInterface (hop.Index (i / 2 + i % 2 + segmentOfLink m (i / 2)))
+-- interface i is the first of link i / 2 if i is even, else the second; 8 where there is none
+unfoldable pub hopFieldOf : PathMetaHeader → ℕ → Result PathError ℕ
+hopFieldOf m i = do
+  require (ltb i (interfacesCount m)) error.NoSuchField
+  ok (i / 2 + i % 2 + segmentOfLink m (i / 2))
+
+abbrev pub hopFieldFound : HopFieldOf → Result PathError ℕ
+hopFieldFound (hop.Index index) = ok index
+hopFieldFound hop.NoSuchInterface = refused error.NoSuchField
+
+-- READING
 
 -- the first length is not zero, and no length follows a zero one
 unfoldable pub lengthsValid : PathMetaHeader → Bool
-lengthsValid m =
-    pick (eqb (segmentLength m 0) 0) false (pick (eqb (segmentLength m 1) 0) (eqb (segmentLength m 2) 0) true)
-
--- the hop pointer is under N and lies in the segment that the info pointer names
-unfoldable pub hopValid : PathMetaHeader → Bool
-hopValid m =
-    pick (ltb (m .«current_hop_field») (hopFieldsCount m)) (eqb (segmentOf m (m .«current_hop_field»)) (m .«current_info_field»)) false
+lengthsValid m = not (eqb (segmentLength m 0) 0) && (not (eqb (segmentLength m 1) 0) || eqb (segmentLength m 2) 0)
 
 -- the info pointer is under I
 unfoldable pub infoValid : PathMetaHeader → Bool
 infoValid m = ltb (m .«current_info_field») (infoFieldsCount m)
 
--- 01's order: lengths (4), info pointer (5), hop pointer (6)
-unfoldable pub firstRefusal : Bool → Bool → Bool → Decoded
-firstRefusal lengths info hop =
-    pick lengths
-    (pick info (pick hop Accepted (Refused (InvalidPath HopFieldOutOfRange))) (Refused (InvalidPath InfoFieldOutOfRange)))
-    (Refused (InvalidPath InvalidSegmentLengths))
+-- the hop pointer is under N and lies in the segment that the info pointer names
+unfoldable pub hopValid : PathMetaHeader → Bool
+hopValid m = ltb (m .«current_hop_field») (hopFieldsCount m) && eqb (segmentOf m (m .«current_hop_field»)) (m .«current_info_field»)
 
-unfoldable pub checked : PathMetaHeader → Decoded
-checked m = firstRefusal (lengthsValid m) (infoValid m) (hopValid m)
+-- the rules of a meta header, in 01's order
+unfoldable pub checked : PathMetaHeader → Result DecodeError PathMetaHeader
+checked m = do
+  require (lengthsValid m) (InvalidPath InvalidSegmentLengths)
+  require (infoValid m) (InvalidPath InfoFieldOutOfRange)
+  require (hopValid m) (InvalidPath HopFieldOutOfRange)
+  ok m
 
--- what a reader hands back: the header, or a header of zeros where it is refused
-unfoldable pub settled : Decoded → PathMetaHeader → MetaRead
-settled Accepted m = record { answer = Accepted; «meta_header» = m }
-settled (Refused error) m = record { answer = Refused error; «meta_header» = metaOf 0 }
+-- reading the meta header that begins bytes: 4 of them, then its rules
+unfoldable pub readMeta : List ℕ → Result DecodeError PathMetaHeader
+readMeta bytes = do
+  require (room bytes 0 4) PacketEmptyOrTruncated
+  checked (metaOf (bigEndian 4 bytes 0))
 
-unfoldable pub metaRead : Answer → MetaRead
-metaRead (value fields) = settled (checked (metaOf fields)) (metaOf fields)
-metaRead (refused number) = settled (Refused PacketEmptyOrTruncated) (metaOf 0)
-
--- reading the meta header that begins bytes: too few (1), then its rules
-unfoldable pub readMeta : List ℕ → MetaRead
-readMeta bytes = metaRead (numberAt 4 bytes 0)
+-- what a reader hands back: a header of zeros where it is refused
+unfoldable pub metaRead : Result DecodeError PathMetaHeader → MetaRead
+metaRead r = record { answer = decodedOf r; «meta_header» = orElse r (metaOf 0) }

@@ -7,6 +7,8 @@ use wire_encoding::read::get_u32;
 use wire_encoding::read::wide;
 ghost use mathlib.Core.Path.{_≡_};
 ghost use Prim.Native.Nat.{_≤_, _<_};
+ghost use Rattle.wire_encoding.specs.Result.{refused};
+ghost use Rattle.path_error.specs.declared.DecodeError.the-variants.{InvalidPath};
 ghost use Rattle.path_meta_header.specs.MetaHeader as spec;
 
 // The pointers, the reserved bits and the three segment lengths. Each may hold any byte: writing one tests their widths.
@@ -101,7 +103,7 @@ impl PathMetaHeader {
 
     // The hop field that interface `index` belongs to.
     pub fn hop_field_index_for_interface(self, index: usize) -> HopFieldOf
-        ensures { λ r. ⌜ r ≡ spec.hopFieldOf self index ⌝ }
+        ensures { λ r. ⌜ spec.hopFieldFound r ≡ spec.hopFieldOf self index ⌝ }
     {
         if self.interfaces_count() <= index {
             return HopFieldOf::NoSuchInterface;
@@ -112,7 +114,7 @@ impl PathMetaHeader {
 
     // Where info field `index` starts.
     pub fn info_field_offset(self, index: usize) -> Offset
-        ensures { λ r. ⌜ r ≡ spec.infoFieldOffset self index ⌝ }
+        ensures { λ r. ⌜ spec.offsetFound r ≡ spec.infoFieldOffset self index ⌝ }
     {
         if index < self.info_fields_count() {
             return Offset::At(PathMetaHeader::LENGTH + index * PathMetaHeader::INFO_FIELD_LENGTH);
@@ -122,7 +124,7 @@ impl PathMetaHeader {
 
     // Where hop field `index` starts.
     pub fn hop_field_offset(self, index: usize) -> Offset
-        ensures { λ r. ⌜ r ≡ spec.hopFieldOffset self index ⌝ }
+        ensures { λ r. ⌜ spec.offsetFound r ≡ spec.hopFieldOffset self index ⌝ }
     {
         if index < self.hop_fields_count() {
             return Offset::At(
@@ -228,11 +230,23 @@ impl PathMetaHeader {
         wide(self.current_info_field) < self.info_fields_count()
     }
 
-    // The rules of a meta header.
-    fn check(self) -> Decoded
-        ensures { λ r. ⌜ r ≡ spec.checked self ⌝ }
+    // The rules of a meta header: lengths, info pointer, hop pointer.
+    fn check(self) -> MetaRead
+        ensures { λ r. ⌜ r ≡ spec.metaRead (spec.checked self) ⌝ }
     {
-        first_refusal(self.lengths_valid(), self.info_valid(), self.hop_valid())
+        if !self.lengths_valid() {
+            return MetaRead::invalid(DataplanePathErrorKind::InvalidSegmentLengths);
+        }
+        if !self.info_valid() {
+            return MetaRead::invalid(DataplanePathErrorKind::InfoFieldOutOfRange);
+        }
+        if !self.hop_valid() {
+            return MetaRead::invalid(DataplanePathErrorKind::HopFieldOutOfRange);
+        }
+        MetaRead {
+            answer: Decoded::Accepted,
+            meta_header: self,
+        }
     }
 
     // The header that a word spells, whatever its values.
@@ -252,57 +266,31 @@ impl PathMetaHeader {
 
     // Reads the meta header that begins `bytes`.
     pub fn decode(bytes: &[u8]) -> MetaRead
-        ensures { λ r. ⌜ r ≡ spec.readMeta (now (bytes .entry)) ⌝ }
+        ensures { λ r. ⌜ r ≡ spec.metaRead (spec.readMeta (now (bytes .entry))) ⌝ }
     {
         match get_u32(bytes, 0) {
-            Read32::Value(fields) => {
-                let meta_header = PathMetaHeader::from_u32(fields);
-                MetaRead::new(meta_header.check(), meta_header)
-            }
-            Read32::Truncated => MetaRead::new(
-                Decoded::Refused(DecodeError::PacketEmptyOrTruncated),
-                PathMetaHeader::from_u32(0),
-            ),
+            Read32::Value(fields) => PathMetaHeader::from_u32(fields).check(),
+            Read32::Truncated => MetaRead::refused(DecodeError::PacketEmptyOrTruncated),
         }
     }
-}
-
-// The order in which the rules of a meta header are tested: lengths, info pointer, hop pointer.
-fn first_refusal(lengths: bool, info: bool, hop: bool) -> Decoded
-    ensures { λ r. ⌜ r ≡ spec.firstRefusal lengths info hop ⌝ }
-{
-    if !lengths {
-        return Decoded::Refused(DecodeError::InvalidPath(
-            DataplanePathErrorKind::InvalidSegmentLengths,
-        ));
-    }
-    if !info {
-        return Decoded::Refused(DecodeError::InvalidPath(
-            DataplanePathErrorKind::InfoFieldOutOfRange,
-        ));
-    }
-    if !hop {
-        return Decoded::Refused(DecodeError::InvalidPath(
-            DataplanePathErrorKind::HopFieldOutOfRange,
-        ));
-    }
-    Decoded::Accepted
 }
 
 impl MetaRead {
     // A refused header is all zero.
-    fn new(answer: Decoded, meta_header: PathMetaHeader) -> MetaRead
-        ensures { λ r. ⌜ r ≡ spec.settled answer «meta_header» ⌝ }
+    fn refused(error: DecodeError) -> MetaRead
+        ensures { λ r. ⌜ r ≡ spec.metaRead (refused error) ⌝ }
     {
-        match answer {
-            Decoded::Accepted => MetaRead {
-                answer: Decoded::Accepted,
-                meta_header,
-            },
-            Decoded::Refused(error) => MetaRead {
-                answer: Decoded::Refused(error),
-                meta_header: PathMetaHeader::from_u32(0),
-            },
+        let meta_header = PathMetaHeader::from_u32(0);
+        MetaRead {
+            answer: Decoded::Refused(error),
+            meta_header,
         }
+    }
+
+    // A header that breaks one of its rules.
+    fn invalid(kind: DataplanePathErrorKind) -> MetaRead
+        ensures { λ r. ⌜ r ≡ spec.metaRead (refused (InvalidPath kind)) ⌝ }
+    {
+        MetaRead::refused(DecodeError::InvalidPath(kind))
     }
 }

@@ -1,10 +1,10 @@
 -- Worked examples of reversal, computed: pointers and reserved bits set, unused flag bits set, one, two and three segments.
 -- Assumes nothing.
 use mathlib.Core.Path.{_≡_, refl}
-use mathlib.Core.List.{List, [], _∷_}
+use mathlib.Core.List.{List, [], _∷_, flatten}
 use Prim.Native.Nat.{ℕ}
 use lib.ListN.{replicate}
-use Rattle.wire_encoding.specs.BigEndian.{bigEndian, bytesOf, numberAt, room}
+use Rattle.wire_encoding.specs.BigEndian.{bigEndian, bytesOf, room}
 use Rattle.bits.specs.Bits.{withBit}
 use Rattle.path_meta_header.specs.MetaHeader as meta
 use Rattle.meta_header_reversal.specs.Reversal as reversal
@@ -32,14 +32,12 @@ three-segments = 0x83 ∷ 0x00 ∷ 0x10 ∷ 0x81 ∷ 0x03 ∷ 0x00 ∷ 0x11 ∷ 
 unfoldable pub three-segments-reversed : List ℕ
 three-segments-reversed = 0x00 ∷ 0x00 ∷ 0x10 ∷ 0x81 ∷ 0x02 ∷ 0x00 ∷ 0x33 ∷ 0x33 ∷ 0x00 ∷ 0x00 ∷ 0x00 ∷ 0x01 ∷ 0x01 ∷ 0x00 ∷ 0x22 ∷ 0x22 ∷ 0x00 ∷ 0x00 ∷ 0x00 ∷ 0x01 ∷ 0x02 ∷ 0x00 ∷ 0x11 ∷ 0x11 ∷ 0x00 ∷ 0x00 ∷ 0x00 ∷ 0x01 ∷ 0x00 ∷ 0x00 ∷ 0x00 ∷ 0x07 ∷ 0x00 ∷ 0x08 ∷ 0xA3 ∷ 0x0E ∷ 0x13 ∷ 0x23 ∷ 0x33 ∷ 0x43 ∷ 0x00 ∷ 0x00 ∷ 0x00 ∷ 0x05 ∷ 0x00 ∷ 0x06 ∷ 0xA2 ∷ 0x0D ∷ 0x12 ∷ 0x22 ∷ 0x32 ∷ 0x42 ∷ 0x00 ∷ 0x00 ∷ 0x00 ∷ 0x03 ∷ 0x00 ∷ 0x04 ∷ 0xA1 ∷ 0x0C ∷ 0x11 ∷ 0x21 ∷ 0x31 ∷ 0x41 ∷ 0x00 ∷ 0x00 ∷ 0x00 ∷ 0x01 ∷ 0x00 ∷ 0x02 ∷ 0xA0 ∷ 0x0B ∷ 0x10 ∷ 0x20 ∷ 0x30 ∷ 0x40 ∷ []
 
-pub examples : (reverse.reversed 1 one-segment (replicate 36 0) ≡ one-segment-reversed)
-    × ((reverse.reversed 1 two-segments (replicate 56 0) ≡ two-segments-reversed)
-    × ((reverse.reversed 1 three-segments (replicate 76 0) ≡ three-segments-reversed)
-    × ((reverse.reversed 1 one-segment (replicate 37 0) ≡ replicate 37 0) × (reverse.reversed 7 (1 ∷ 2 ∷ 3 ∷ []) (0 ∷ 0 ∷ 0 ∷ []) ≡ 1 ∷ 2 ∷ 3 ∷ []))))
-unfolding one-segment two-segments three-segments one-segment-reversed two-segments-reversed three-segments-reversed bigEndian bytesOf numberAt room withBit
+pub examples : (dataplane.contents (reverse.reverse 1 one-segment (replicate 36 0)) (replicate 36 0) ≡ one-segment-reversed)
+    × ((dataplane.contents (reverse.reverse 1 two-segments (replicate 56 0)) (replicate 56 0) ≡ two-segments-reversed)
+    × ((dataplane.contents (reverse.reverse 1 three-segments (replicate 76 0)) (replicate 76 0) ≡ three-segments-reversed)
+    × ((dataplane.contents (reverse.reverse 1 one-segment (replicate 37 0)) (replicate 37 0) ≡ replicate 37 0) × (dataplane.contents (reverse.reverse 7 (1 ∷ 2 ∷ 3 ∷ []) (0 ∷ 0 ∷ 0 ∷ [])) (0 ∷ 0 ∷ 0 ∷ []) ≡ 1 ∷ 2 ∷ 3 ∷ []))))
+unfolding one-segment two-segments three-segments one-segment-reversed two-segments-reversed three-segments-reversed bigEndian bytesOf room withBit
     meta.nthField meta.metaOf meta.infoFieldsCount meta.hopFieldsCount meta.segmentOf meta.pathLength meta.lengthsValid meta.infoValid meta.hopValid
-    meta.firstRefusal meta.checked meta.settled meta.metaRead meta.readMeta encoding.wordOf reversal.atStart reversal.reversedLengths reversal.reversedMeta
-    standard.zeroPath standard.pathRefused standard.complete standard.readPath
-    dataplane.unread dataplane.standardRead dataplane.readDataplane copy.destination copy.destinationIn copy.copiedBy
-    reverse.reversedRecords reverse.flipped reverse.same reverse.reversedPath reverse.reversedRun reverse.reversed
+    meta.checked meta.readMeta encoding.wordOf reversal.atStart reversal.reversedLengths reversal.reversedMeta standard.readPath
+    dataplane.readDataplane copy.filled copy.copy flatten reverse.records reverse.reversedRecords reverse.flipped reverse.same reverse.reversedPath reverse.reverse
 examples = (refl, (refl, (refl, (refl, refl))))

@@ -1,49 +1,37 @@
 -- Laws of a reversed path: the parts of a field, the loop that writes records last one first, the size and the header of
--- what is written, and what is answered by the type and by what reading finds.
+-- what is written.
 -- Assumes nothing.
 use mathlib.Core.Path.{_≡_, refl, sym, ap, ap₂, _∙_}
-use mathlib.Core.Bool.{Bool, true, false}
-use mathlib.Core.List.{List, [], _∷_, _++_}
+use mathlib.Core.Bool.{Bool, true, false, cond}
+use mathlib.Core.List.{List, [], _∷_, _++_, map, flatten, reverse as reversed, reverse-append}
 use Prim.Native.Nat.{ℕ, zero, suc, _+_, _-_, _*_, _≤_, _<_}
-use native.Mathlib.Nat.{suc-mul, mod-eq-of-lt}
+use native.Mathlib.Nat.{suc-mul, zero-mul, add-comm, mod-eq-of-lt}
 use native.Mathlib.Numerals.{sub-one}
 use native.Mathlib.Omega.{arith}
 use lib.Dec.{eqb}
 use lib.Bits.{bitXor}
 use lib.ListN.{length, take, drop, getD, set, length-append, length-drop}
 use lib.Seq.{sets, take-all, drop-drop, length-sets}
-use borrow.Author.Tests.{lt-ltb, eq-eqb, ne-eqb}
-use Rattle.wire_encoding.specs.Choice.{pick}
+use borrow.Author.Tests.{lt-ltb}
 use Rattle.wire_encoding.specs.BigEndian.{bigEndian, bytesOf, part, placed}
 use Rattle.bits.proofs.BitLaws.{flip-bit}
 use Rattle.wire_encoding.proofs.Parts.{length-part, part-join, written-after, sets-whole}
 use Rattle.wire_encoding.proofs.Numbers.{length-bytesOf, read-bytesOf}
 use Rattle.wire_encoding.proofs.Writes.{lent-run, placed-is}
 use Rattle.path_meta_header.specs.MetaHeader.{nthField, metaOf, infoFieldsCount, hopFieldsCount, pathLength}
-use Rattle.meta_header_reversal.specs.Reversal.{atStart, reversedLengths, reversedMeta}
+use Rattle.meta_header_reversal.specs.Reversal.{atStart, reversedMeta}
+use Rattle.meta_header_reversal.proofs.ReversalLaws.{rowOf, row-is}
 use Rattle.meta_header_encoding.specs.Encoding.{metaFits, wordOf}
 use Rattle.path_meta_header.specs.declared.PathMetaHeader.{PathMetaHeader}
-use Rattle.path_error.specs.declared.Decoded.the-variants as decoded
-use Rattle.path_error.specs.declared.DecodeError.{DecodeError}
-use Rattle.path_error.specs.declared.Answer.the-variants as answer
-use Rattle.path_error.specs.declared.PathError.the-variants.{Decode, InadequateBufferSize}
 use Rattle.meta_header_encoding.proofs.EncodingLaws.{fitting, word-below, meta-back}
-use Rattle.path.specs.declared.standard.PathRead.{PathRead}
-use Rattle.path.specs.declared.dataplane.PathAnswer.{PathAnswer}
-use Rattle.path.specs.Standard.{readPath}
-use Rattle.path.specs.Dataplane.{standardRead, readDataplane, answerRefused, answered}
-use Rattle.path_copy.specs.Copy.{destination, destinationIn, copyAnswer, copiedBy, copied}
 use Rattle.path.proofs.Reading.{Readable}
 use Rattle.reverse.specs.Reverse.{
+  records,
   reversedRecords,
   flipped,
   same,
   reversedPath,
   Reversible,
-  reversedRun,
-  reversedRecord,
-  reverseAnswer,
-  reversed,
 }
 
 -- THE PARTS OF A FIELD
@@ -92,17 +80,36 @@ flipped-written (flags ∷ rest) dst h g e =
 
 -- RECORDS, THE LAST ONE FIRST
 
+module _ (f : List ℕ → List ℕ) (k : ℕ) where
+  -- the last record comes after the others
+  last-record : (n : ℕ) (bytes : List ℕ) → records k (suc n) bytes ≡ records k n bytes ++ (part (n * k) k bytes ∷ [])
+  unfolding records
+  last-record zero bytes = ap (λ (p : ℕ). part p k bytes ∷ []) (sym (zero-mul k))
+  last-record (suc n) bytes =
+      let after : k + n * k ≡ suc n * k = add-comm k (n * k) ∙ sym (suc-mul n k) in
+      ap (λ (l : List (List ℕ)). take k bytes ∷ l)
+      (last-record n (drop k bytes)
+      ∙ ap (λ (l : List ℕ). records k n (drop k bytes) ++ (take k l ∷ [])) (drop-drop (n * k) k bytes ∙ ap (λ (p : ℕ). drop p bytes) after))
+
+  -- so it is the first of the reversed
+  pub last-first : (n : ℕ) (bytes : List ℕ) → reversedRecords f k (suc n) bytes ≡ f (part (n * k) k bytes) ++ reversedRecords f k n bytes
+  unfolding reversedRecords flatten
+  last-first n bytes =
+      ap (λ (l : List (List ℕ)). flatten (map f l))
+      (ap (λ (l : List (List ℕ)). reversed l) (last-record n bytes) ∙ reverse-append (records k n bytes) (part (n * k) k bytes ∷ []))
+
 -- records of k bytes, each written by f
 module _ (f : List ℕ → List ℕ) (sized : Sized f) (k : ℕ) where
   length-record : (n : ℕ) (bytes : List ℕ) → n * k + k ≤ length bytes → length (f (part (n * k) k bytes)) ≡ k
   length-record n bytes h = sized (part (n * k) k bytes) ∙ length-part (n * k) k bytes h
 
   pub length-reversedRecords : (n : ℕ) (bytes : List ℕ) → n * k ≤ length bytes → length (reversedRecords f k n bytes) ≡ n * k
-  unfolding reversedRecords
+  unfolding reversedRecords records flatten
   length-reversedRecords zero bytes h = omega arith
   length-reversedRecords (suc n) bytes h =
       let more : suc n * k ≡ n * k + k = suc-mul n k in
-      length-append (f (part (n * k) k bytes)) (reversedRecords f k n bytes)
+      ap length (last-first f k n bytes)
+      ∙ length-append (f (part (n * k) k bytes)) (reversedRecords f k n bytes)
       ∙ ap₂ (λ (x y : ℕ). x + y) (length-record n bytes (omega arith)) (length-reversedRecords n bytes (omega arith))
       ∙ omega arith
 
@@ -117,7 +124,6 @@ module _ (f : List ℕ → List ℕ) (sized : Sized f) (k : ℕ) where
     -- the last record goes to the part that was lent for it
     pub step : (dst now : List ℕ) (to left j m : ℕ) → 0 < left → j ≡ k → m ≡ k → Left dst to left
         → now ≡ f (part (from + (left - 1) * k) j src) → Left (take to dst ++ (now ++ drop m (drop to dst))) (to + k) (left - 1)
-    unfolding reversedRecords
     step dst now to (suc n) j m h ej em i e =
         let more : suc n * k ≡ n * k + k = suc-mul n k in
         let last : List ℕ = f (part (n * k) k (drop from src)) in
@@ -132,14 +138,14 @@ module _ (f : List ℕ → List ℕ) (sized : Sized f) (k : ℕ) where
         ∙ lent-run last dst to m (size ∙ sym em) (omega arith) in
         let kept : length (take to dst ++ (now ++ drop m (drop to dst))) ≡ length dst = ap length written ∙ simp length-sets in
         simp sub-one (record {
-          writes = ap (λ (d : List ℕ). sets d (to + k) rest) written ∙ written-after last rest dst to k size ∙ i .writes;
+          writes = ap (λ (d : List ℕ). sets d (to + k) rest) written ∙ written-after last rest dst to k size ∙ ap (sets dst to) (sym (last-first f k n (drop from src))) ∙ i .writes;
           in-src = omega arith;
           in-dst = omega arith;
           len = kept ∙ i .len;
         })
 
     pub done : (dst : List ℕ) (to left : ℕ) → left ≤ 0 → Left dst to left → dst ≡ goal
-    unfolding reversedRecords
+    unfolding reversedRecords records flatten
     done dst to zero h i = i .writes
 
 -- THE WHOLE PATH
@@ -187,18 +193,18 @@ module _ (m : PathMetaHeader) (bytes : List ℕ) where
 
 -- what holds of each of the four rows of lengths holds of the lengths reversed
 by-row : (P : List ℕ → Type 0) (a b c : ℕ) → P (0 ∷ 0 ∷ 0 ∷ []) → P (a ∷ 0 ∷ 0 ∷ []) → P (b ∷ a ∷ 0 ∷ []) → P (c ∷ b ∷ a ∷ [])
-    → P (reversedLengths a b c)
-unfolding reversedLengths
+    → P (rowOf a b c)
+unfolding rowOf
 by-row P a b c none one two three = go (eqb a 0) (eqb b 0) (eqb c 0)
   where
-    go : (x y z : Bool) → P (pick x (0 ∷ 0 ∷ 0 ∷ []) (pick y (a ∷ 0 ∷ 0 ∷ []) (pick z (b ∷ a ∷ 0 ∷ []) (c ∷ b ∷ a ∷ []))))
+    go : (x y z : Bool) → P (cond x (0 ∷ 0 ∷ 0 ∷ []) (cond y (a ∷ 0 ∷ 0 ∷ []) (cond z (b ∷ a ∷ 0 ∷ []) (c ∷ b ∷ a ∷ []))))
     go true y z = none
     go false true z = one
     go false false true = two
     go false false false = three
 
 -- the numbers of a reversed header fit their fields where the lengths do
-fits-reversed : (a b c : ℕ) → a < 64 → b < 64 → c < 64 → metaFits (atStart (reversedLengths a b c)) ≡ true
+fits-reversed : (a b c : ℕ) → a < 64 → b < 64 → c < 64 → metaFits (atStart (rowOf a b c)) ≡ true
 unfolding metaFits atStart
 fits-reversed a b c ha hb hc =
     by-row (λ lengths. metaFits (atStart lengths) ≡ true) a b c
@@ -210,7 +216,8 @@ fits-reversed a b c ha hb hc =
 -- those of a header that was read do, for each is six bits of a word
 fits-read : (word : ℕ) → metaFits (reversedMeta (metaOf word)) ≡ true
 unfolding reversedMeta metaOf nthField
-fits-read word = fits-reversed _ _ _ (omega arith) (omega arith) (omega arith)
+fits-read word =
+    ap (λ (l : List ℕ). metaFits (atStart l)) (row-is (metaOf word)) ∙ fits-reversed _ _ _ (omega arith) (omega arith) (omega arith)
 
 -- so a path that was read can be reversed into a destination of its length
 pub reversible : {bytes : List ℕ} {m : PathMetaHeader} {n : ℕ} → Readable bytes m → n ≡ pathLength m → Reversible m (length bytes) n
@@ -231,33 +238,5 @@ module _ (m : PathMetaHeader) (bytes : List ℕ) (fits : metaFits (reversedMeta 
   pub meta-reversedPath : metaOf (bigEndian 4 (reversedPath m bytes) 0) ≡ reversedMeta m
   unfolding reversedMeta atStart
   meta-reversedPath =
-      let three = by-row (λ lengths. length lengths ≡ 3) _ _ _ refl refl refl refl in
+      let three = ap length (row-is m) ∙ by-row (λ lengths. length lengths ≡ 3) _ _ _ refl refl refl refl in
       ap metaOf word-reversedPath ∙ meta-back (reversedMeta m) three (fitting (reversedMeta m) fits)
-
--- THE ANSWERS
-
--- a path of another type than 1 is copied
-pub as-copied : (type : ℕ) (bytes dst : List ℕ) → (type ≡ 1 → ⊥)
-    → (copyAnswer type bytes (length dst) ≡ reverseAnswer type bytes (length dst)) × (copied type bytes dst ≡ reversed type bytes dst)
-unfolding copyAnswer copied reverseAnswer reversed reversedRun reversedRecord
-as-copied type bytes dst h = rw (ne-eqb type 1 h) (refl, refl)
-
--- one of type 1 is answered by what reading finds, then by the size
-module _ (bytes dst : List ℕ) {read : PathRead} (is : read ≡ readPath bytes) where
-  pub not-read : {error : DecodeError} → read .answer ≡ decoded.Refused error
-      → (answerRefused (Decode error) ≡ reverseAnswer 1 bytes (length dst)) × (dst ≡ reversed 1 bytes dst)
-  unfolding reverseAnswer reversed destinationIn destination readDataplane standardRead answered copiedBy
-  not-read e = rw (← is, e) (refl, refl)
-
-  pub other-size : read .answer ≡ decoded.Accepted → (length dst ≡ pathLength (read .path .«meta_header») → ⊥)
-      → (answerRefused InadequateBufferSize ≡ reverseAnswer 1 bytes (length dst)) × (dst ≡ reversed 1 bytes dst)
-  unfolding reverseAnswer reversed destinationIn destination readDataplane standardRead answered copiedBy
-  other-size e h = rw (← is, e, ne-eqb _ _ h) (refl, refl)
-
-  pub reversed-whole : read .answer ≡ decoded.Accepted → length dst ≡ pathLength (read .path .«meta_header»)
-      → {now : List ℕ} → now ≡ reversedPath (read .path .«meta_header») bytes
-      → (_≡_ {A = PathAnswer} (record { answer = answer.Accepted; path = record { «meta_header» = reversedMeta (read .path .«meta_header») } })
-      (reverseAnswer 1 bytes (length dst)))
-      × (now ≡ reversed 1 bytes dst)
-  unfolding reverseAnswer reversed reversedRun reversedRecord destinationIn destination readDataplane standardRead answered copiedBy
-  reversed-whole e h written = rw (← is, e, eq-eqb _ _ h) (refl, written)

@@ -3,7 +3,7 @@
 -- Assumes nothing.
 use mathlib.Core.Path.{_≡_, refl, sym, ap, ap₂, _∙_, subst}
 use mathlib.Core.Bool.{Bool, true, false, not}
-use mathlib.Core.List.{List, [], _∷_, _++_, append-assoc, append-nil}
+use mathlib.Core.List.{List, [], _∷_, _++_, append-assoc, append-nil, flatten}
 use Prim.Native.Nat.{ℕ, zero, suc, _+_, _-_, _*_, _/_, _%_, _^_, _≤_}
 use native.Mathlib.Nat.{suc-mul, zero-mul, add-comm}
 use native.Mathlib.Omega.{arith}
@@ -22,8 +22,8 @@ use Rattle.meta_header_encoding.specs.Encoding.{wordOf}
 use Rattle.path_meta_header.specs.declared.PathMetaHeader.{PathMetaHeader}
 use Rattle.path.proofs.Links.{Segments, one, two, three, segments}
 use Rattle.path.proofs.Reading.{Readable}
-use Rattle.reverse.specs.Reverse.{reversedRecords, flipped, same, reversedPath}
-use Rattle.reverse.proofs.Laws.{Sized, sized-flipped, sized-same, length-reversedRecords}
+use Rattle.reverse.specs.Reverse.{records, reversedRecords, flipped, same, reversedPath}
+use Rattle.reverse.proofs.Laws.{Sized, sized-flipped, sized-same, last-first, length-reversedRecords}
 
 -- THE RECORDS
 
@@ -40,24 +40,27 @@ module _ (f : List ℕ → List ℕ) (k : ℕ) where
 
   -- the first record comes last
   first-last : (n : ℕ) (a b : List ℕ) → length a ≡ k → reversedRecords f k (suc n) (a ++ b) ≡ reversedRecords f k n b ++ f a
-  unfolding reversedRecords
-  first-last zero a b e = append-nil _ ∙ ap (λ (p : ℕ). f (part p k (a ++ b))) (zero-mul k) ∙ ap f (take-at a b k e)
+  unfolding reversedRecords records flatten
+  first-last zero a b e = append-nil _ ∙ ap f (take-at a b k e)
   first-last (suc n) a b e =
-      ap₂ (λ (x y : List ℕ). f x ++ y)
+      last-first f k (suc n) (a ++ b)
+      ∙ ap₂ (λ (x y : List ℕ). f x ++ y)
       (ap (λ (p : ℕ). part p k (a ++ b)) (suc-mul n k) ∙ part-after a b (n * k) e)
       (first-last n a b e)
       ∙ sym (append-assoc (f (part (n * k) k b)) (reversedRecords f k n b) (f a))
+      ∙ ap (λ (l : List ℕ). l ++ f a) (sym (last-first f k n b))
 
   -- so reversed twice they are as they were, whatever follows them
   records-twice : Sized f → Undone f → (n : ℕ) (bytes rest : List ℕ) → n * k ≤ length bytes
       → reversedRecords f k n (reversedRecords f k n bytes ++ rest) ≡ take (n * k) bytes
-  unfolding reversedRecords
+  unfolding reversedRecords records flatten
   records-twice sized undone zero bytes rest h = ap (λ (p : ℕ). take p bytes) (sym (zero-mul k))
   records-twice sized undone (suc n) bytes rest h =
       let more : suc n * k ≡ n * k + k = suc-mul n k in
       let last : List ℕ = part (n * k) k bytes in
       let before : List ℕ = reversedRecords f k n bytes in
-      ap (reversedRecords f k (suc n)) (append-assoc (f last) before rest)
+      ap (λ (l : List ℕ). reversedRecords f k (suc n) (l ++ rest)) (last-first f k n bytes)
+      ∙ ap (reversedRecords f k (suc n)) (append-assoc (f last) before rest)
       ∙ first-last n (f last) (before ++ rest) (sized last ∙ length-part (n * k) k bytes (omega arith))
       ∙ ap₂ (λ (x y : List ℕ). x ++ y) (records-twice sized undone n bytes rest (omega arith)) (undone last)
       ∙ sym (take-add (n * k) k bytes)

@@ -2,26 +2,31 @@
 -- Direction flag flipped, CurrINF, CurrHF and RSV zero.
 use Prim.Native.Nat.{ℕ, zero, suc, _+_, _*_, _≤_}
 use mathlib.Core.Path.{_≡_}
-use mathlib.Core.Bool.{true, not}
-use mathlib.Core.List.{List, [], _∷_, _++_}
-use lib.ListN.{length, take, drop}
+use mathlib.Core.Bool.{true, not, cond}
+use mathlib.Core.List.{List, [], _∷_, _++_, map, flatten, reverse as reversed}
+use lib.ListN.{take, drop}
 use lib.Dec.{eqb}
-use Rattle.wire_encoding.specs.Choice.{pick}
+use Rattle.wire_encoding.specs.Result.{Result, _>>=_, refusing}
 use Rattle.bits.specs.Bits.{bitOf, withBit}
-use Rattle.wire_encoding.specs.BigEndian.{bytesOf, part}
+use Rattle.wire_encoding.specs.BigEndian.{bytesOf}
 use Rattle.path_meta_header.specs.MetaHeader.{infoFieldsCount, hopFieldsCount, pathLength}
 use Rattle.meta_header_reversal.specs.Reversal.{reversedMeta}
 use Rattle.meta_header_encoding.specs.Encoding.{metaFits, wordOf}
 use Rattle.path_meta_header.specs.declared.PathMetaHeader.{PathMetaHeader}
-use Rattle.path.specs.declared.standard.StandardPath.{StandardPath}
-use Rattle.path.specs.declared.dataplane.PathAnswer.{PathAnswer}
-use Rattle.path.specs.Dataplane.{readDataplane, answered}
-use Rattle.path_copy.specs.Copy.{destinationIn, copiedBy}
+use Rattle.path_error.specs.declared.PathError.{PathError}
+use Rattle.path_error.specs.declared.PathError.the-variants.{Decode}
+use Rattle.path.specs.Standard.{readPath}
+use Rattle.path.specs.Dataplane.{Written}
+use Rattle.path_copy.specs.Copy.{filled, copy}
 
--- f of each of the first n records of k bytes, the last record first
+-- the first n records of k bytes
+unfoldable pub records : ℕ → ℕ → List ℕ → List (List ℕ)
+records k zero bytes = []
+records k (suc n) bytes = take k bytes ∷ records k n (drop k bytes)
+
+-- in opposite order, f of each
 unfoldable pub reversedRecords : (List ℕ → List ℕ) → ℕ → ℕ → List ℕ → List ℕ
-reversedRecords f k zero bytes = []
-reversedRecords f k (suc n) bytes = f (part (n * k) k bytes) ++ reversedRecords f k n bytes
+reversedRecords f k n bytes = flatten (map f (reversed (records k n bytes)))
 
 -- an info field with its direction bit flipped, every other bit kept
 unfoldable pub flipped : List ℕ → List ℕ
@@ -45,19 +50,11 @@ pub record Reversible (m : PathMetaHeader) (source destination : ℕ) : Type 0 w
   pub whole : pathLength m ≤ source
   pub exact : destination ≡ pathLength m
 
--- what a path of a type becomes: a standard one is reversed, any other is as it is; and its record
-unfoldable pub reversedRun : ℕ → List ℕ → List ℕ
-reversedRun type bytes =
-    let read = readDataplane type bytes in
-    pick (eqb type 1) (reversedPath (read .path .«meta_header») bytes) (take (read .length) bytes)
+-- a standard path is reversed into a destination of its length, any other is copied
+abbrev pub reverseStandard : List ℕ → List ℕ → Result PathError Written
+reverseStandard bytes dst = do
+  m ← refusing Decode (readPath bytes)
+  filled (reversedMeta m) (reversedPath m bytes) dst
 
-unfoldable pub reversedRecord : ℕ → StandardPath → StandardPath
-reversedRecord type path = pick (eqb type 1) (record { «meta_header» = reversedMeta (path .«meta_header») }) path
-
--- reading, then 9 unless the destination has the path's length; an empty path disregards it
-unfoldable pub reverseAnswer : ℕ → List ℕ → ℕ → PathAnswer
-reverseAnswer type bytes n = answered (destinationIn type bytes n) (reversedRecord type (readDataplane type bytes .path))
-
--- what the destination then holds: the reversed path, or what it held
-unfoldable pub reversed : ℕ → List ℕ → List ℕ → List ℕ
-reversed type bytes dst = copiedBy type (destinationIn type bytes (length dst)) (reversedRun type bytes) dst
+unfoldable pub reverse : ℕ → List ℕ → List ℕ → Result PathError Written
+reverse type bytes dst = cond (eqb type 1) (reverseStandard bytes dst) (copy type bytes dst)

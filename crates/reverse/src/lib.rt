@@ -19,8 +19,11 @@ ghost use Prim.Native.Nat.{_+_, _*_, _≤_};
 ghost use lib.ListN.{length, drop};
 ghost use lib.Seq.{sets};
 ghost use Rattle.meta_header_encoding.specs.Encoding.{metaFits, wordOf};
-ghost use Rattle.path_error.specs.declared.Decoded.the-variants as decoded;
+ghost use Rattle.wire_encoding.specs.Result.{ok};
+ghost use Rattle.meta_header_reversal.specs.Reversal.{reversedMeta};
 ghost use Rattle.path.specs.Standard.{readPath};
+ghost use Rattle.path.specs.Dataplane.{writtenAnswer, contents};
+ghost use Rattle.path_copy.specs.Copy.{filled};
 ghost use Rattle.reverse.specs.Reverse as spec;
 
 // Writes an info field to `dst`, its direction bit flipped.
@@ -110,9 +113,9 @@ fn reverse_fields(meta_header: PathMetaHeader, bytes: &[u8], dst: &mut [u8])
 
 // Writes a path that was read, reversed, to a destination of exactly its length.
 fn reverse_path(meta_header: PathMetaHeader, bytes: &[u8], dst: &mut [u8]) -> PathAnswer
-    requires { ⌜ readPath (now bytes) ≡ record { answer = decoded.Accepted; path = record { «meta_header» = «meta_header» } } ⌝ }
-    ensures { λ r. ⌜ r ≡ spec.reverseAnswer 1 (now (bytes .entry)) (length (now (dst .entry))) ⌝ }
-    ensures { λ _. ⌜ now (dst .exit) ≡ spec.reversed 1 (now (bytes .entry)) (now (dst .entry)) ⌝ }
+    requires { ⌜ readPath (now bytes) ≡ ok «meta_header» ⌝ }
+    ensures { λ r. ⌜ r ≡ writtenAnswer (filled (reversedMeta «meta_header») (spec.reversedPath «meta_header» (now (bytes .entry))) (now (dst .entry))) ⌝ }
+    ensures { λ _. ⌜ now (dst .exit) ≡ contents (filled (reversedMeta «meta_header») (spec.reversedPath «meta_header» (now (bytes .entry))) (now (dst .entry))) (now (dst .entry)) ⌝ }
 {
     if dst.len() == meta_header.encoded_path_length() {
         reverse_fields(meta_header, bytes, dst);
@@ -126,8 +129,8 @@ fn reverse_path(meta_header: PathMetaHeader, bytes: &[u8], dst: &mut [u8]) -> Pa
 
 // Reads a standard path and writes it reversed.
 fn reverse_standard(bytes: &[u8], dst: &mut [u8]) -> PathAnswer
-    ensures { λ r. ⌜ r ≡ spec.reverseAnswer 1 (now (bytes .entry)) (length (now (dst .entry))) ⌝ }
-    ensures { λ _. ⌜ now (dst .exit) ≡ spec.reversed 1 (now (bytes .entry)) (now (dst .entry)) ⌝ }
+    ensures { λ r. ⌜ r ≡ writtenAnswer (spec.reverse 1 (now (bytes .entry)) (now (dst .entry))) ⌝ }
+    ensures { λ _. ⌜ now (dst .exit) ≡ contents (spec.reverse 1 (now (bytes .entry)) (now (dst .entry))) (now (dst .entry)) ⌝ }
 {
     let read = StandardPath::decode(bytes);
     let answer = read.answer;
@@ -140,8 +143,8 @@ fn reverse_standard(bytes: &[u8], dst: &mut [u8]) -> PathAnswer
 // Writes the reversed path to a destination of exactly the path's length: a standard path by the draft's Path Reversal,
 // an opaque one as it is. An empty path writes nothing and disregards its destination.
 pub fn reverse_to_slice(path_type: u8, bytes: &[u8], dst: &mut [u8]) -> PathAnswer
-    ensures { λ r. ⌜ r ≡ spec.reverseAnswer «path_type» (now (bytes .entry)) (length (now (dst .entry))) ⌝ }
-    ensures { λ _. ⌜ now (dst .exit) ≡ spec.reversed «path_type» (now (bytes .entry)) (now (dst .entry)) ⌝ }
+    ensures { λ r. ⌜ r ≡ writtenAnswer (spec.reverse «path_type» (now (bytes .entry)) (now (dst .entry))) ⌝ }
+    ensures { λ _. ⌜ now (dst .exit) ≡ contents (spec.reverse «path_type» (now (bytes .entry)) (now (dst .entry))) (now (dst .entry)) ⌝ }
 {
     if path_type == DataplanePath::SCION {
         return reverse_standard(bytes, dst);

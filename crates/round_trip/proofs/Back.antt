@@ -3,18 +3,18 @@
 -- Assumes nothing.
 use Prim.Native.Nat.{ℕ, _+_, _-_, _*_, _%_, _<_}
 use mathlib.Core.Path.{_≡_, refl, sym, ap, ap₂, _∙_, subst}
-use mathlib.Core.Bool.{Bool, true, false, not}
+use mathlib.Core.Bool.{Bool, true, false, not, cond, _&&_, _||_}
 use mathlib.Core.List.{List}
 use native.Mathlib.Omega.{arith}
 use lib.Dec.{eqb}
 use borrow.Author.Tests.{eqb-true, eqb-false, eq-eqb, ne-eqb}
-use Rattle.wire_encoding.specs.Choice.{pick}
 use Rattle.bits.specs.Bits.{bitOf, withBit}
 use Rattle.wire_encoding.specs.BigEndian.{bigEndian, part}
 use Rattle.wire_encoding.proofs.Numbers.{read-part}
 use Rattle.path_meta_header.specs.MetaHeader.{segmentLength, infoFieldsCount, hopFieldsCount, segmentOf, infoStart, hopStart}
 use Rattle.path_fields.specs.Fields.{infoFieldAt, withConstructedDir}
 use Rattle.path_meta_header.specs.declared.PathMetaHeader.{PathMetaHeader}
+use Rattle.meta_header_reversal.specs.Reversal.{reversedLengths}
 use Rattle.path_fields.specs.declared.InfoField.{InfoField}
 use Rattle.path.proofs.Links.{segment-below}
 use Rattle.moves.specs.Moves.{atPosition, changeInside, codeOf, moveBytes, moveFrom, movedMeta, positionOf}
@@ -53,13 +53,13 @@ eqb-iff a b c d f g = go (eqb a b) refl
     go true e = e ∙ sym (eq-eqb c d (f (eqb-true a b e)))
     go false e = e ∙ sym (ne-eqb c d (λ q. eqb-false a b e (g q)))
 
-either-way : (a b : Bool) → pick a true b ≡ pick b true a
+either-way : (a b : Bool) → a || b ≡ b || a
 either-way true true = refl
 either-way true false = refl
 either-way false true = refl
 either-way false false = refl
 
-pub no-choice : (t : Bool) → _≡_ {A = ℕ} (pick t 0 0) 0
+pub no-choice : (t : Bool) → _≡_ {A = ℕ} (cond t 0 0) 0
 no-choice true = refl
 no-choice false = refl
 
@@ -69,7 +69,7 @@ pub owner-below : (f h n : ℕ) → h + 1 < n → ownerOf f h < n
 unfolding ownerOf
 owner-below f h n l = go (bitOf 0 f)
   where
-    go : (t : Bool) → pick t h (h + 1) < n
+    go : (t : Bool) → cond t h (h + 1) < n
     go true = omega arith
     go false = l
 
@@ -77,7 +77,7 @@ owner-mirrored : (f f′ h h′ n : ℕ) → bitOf 0 f′ ≡ not (bitOf 0 f) �
 unfolding ownerOf
 owner-mirrored f f′ h h′ n d l e = go (bitOf 0 f) refl
   where
-    go : (t : Bool) → bitOf 0 f ≡ t → pick (bitOf 0 f′) h′ (h′ + 1) ≡ n - 1 - pick (bitOf 0 f) h (h + 1)
+    go : (t : Bool) → bitOf 0 f ≡ t → cond (bitOf 0 f′) h′ (h′ + 1) ≡ n - 1 - cond (bitOf 0 f) h (h + 1)
     go true q = rw (d, q) (omega arith)
     go false q = rw (d, q) (omega arith)
 
@@ -87,11 +87,11 @@ unfolding spared
 spared-mirrored f f′ o o′ s s′ n p l e two = go (bitOf 1 f) refl
   where
     go : (t : Bool) → bitOf 1 f ≡ t
-        → pick (bitOf 1 f′) (pick (eqb (o′ + 1) s′) true (eqb o′ s′)) false ≡ pick (bitOf 1 f) (pick (eqb (o + 1) s) true (eqb o s)) false
+        → bitOf 1 f′ && (eqb (o′ + 1) s′ || eqb o′ s′) ≡ bitOf 1 f && (eqb (o + 1) s || eqb o s)
     go true q =
         let w : s′ + s ≡ n = two q in
         rw (p, q)
-        (ap₂ (λ (a b : Bool). pick a true b) (eqb-iff (o′ + 1) s′ o s (λ r. omega arith) (λ r. omega arith))
+        (ap₂ (λ (a b : Bool). a || b) (eqb-iff (o′ + 1) s′ o s (λ r. omega arith) (λ r. omega arith))
         (eqb-iff o′ s′ (o + 1) s (λ r. omega arith) (λ r. omega arith))
         ∙ either-way (eqb o s) (eqb (o + 1) s))
     go false q = rw (p, q)
@@ -171,7 +171,7 @@ module _ (x : List ℕ) (m : PathMetaHeader) (path : Path x m) (l : m .«current
   back-before-last = omega (arith, z-hop-pointer, z-hops)
 
   back-meta : movedMeta z mz ≡ mirrorMeta m
-  unfolding movedMeta atPosition moveFrom positionOf mirrorMeta turnedMeta
+  unfolding movedMeta atPosition moveFrom positionOf mirrorMeta turnedMeta reversedLengths infoFieldsCount
   back-meta = same-meta (movedMeta z mz) (mirrorMeta m) z-segment (omega (arith, z-hop-pointer)) refl refl
 
   -- ITS FIELDS
@@ -249,16 +249,16 @@ module _ (x : List ℕ) (m : PathMetaHeader) (path : Path x m) (l : m .«current
 
     inside-back : changeInside z mz (mz .«current_info_field») (mz .«current_hop_field») ≡ changeInside x m now h
     unfolding changeInside
-    inside-back = ap₂ (λ (t : Bool) (c : ℕ). pick t 0 c) spared-back code-back
+    inside-back = ap₂ (λ (t : Bool) (c : ℕ). cond t 0 c) spared-back code-back
 
   change-back : (k : ℕ) → k < I → changeAt z mz k ≡ changeAt x m (I - 1 - k)
   unfolding changeAt moveFrom positionOf
   change-back k b = go (eqb next now) refl
     where
       go : (t : Bool) → eqb next now ≡ t
-          → pick (eqb k (mz .«current_info_field»))
-          (pick (eqb (segmentOf mz (mz .«current_hop_field» + 1)) (mz .«current_info_field»)) (changeInside z mz (mz .«current_info_field») (mz .«current_hop_field»)) 0) 0
-          ≡ pick (eqb (I - 1 - k) now) (pick (eqb next now) (changeInside x m now h) 0) 0
+          → cond (eqb k (mz .«current_info_field»))
+          (cond (eqb (segmentOf mz (mz .«current_hop_field» + 1)) (mz .«current_info_field»)) (changeInside z mz (mz .«current_info_field») (mz .«current_hop_field»)) 0) 0
+          ≡ cond (eqb (I - 1 - k) now) (cond (eqb next now) (changeInside x m now h) 0) 0
       go true e =
           let same : next ≡ now = eqb-true next now e in
           let inside : eqb (segmentOf mz (mz .«current_hop_field» + 1)) (mz .«current_info_field») ≡ true =

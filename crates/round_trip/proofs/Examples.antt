@@ -3,21 +3,22 @@
 -- Assumes nothing.
 use Prim.Native.Nat.{ℕ, zero, suc, _+_, _*_, _<_}
 use mathlib.Core.Path.{_≡_, refl, ap}
-use mathlib.Core.Bool.{Bool, true, false}
-use mathlib.Core.List.{List, [], _∷_, _++_}
+use mathlib.Core.Bool.{Bool, true, false, cond}
+use mathlib.Core.List.{List, [], _∷_, _++_, flatten}
 use mathlib.Core.Option.{Option, none, some}
 use native.Mathlib.Omega.{arith}
 use lib.Dec.{ltb, leb, eqb}
 use lib.ListN.{length, getD, take, replicate}
 use borrow.Author.Tests.{ltb-true, leb-true, eqb-true}
-use Rattle.wire_encoding.specs.Choice.{pick}
-use Rattle.wire_encoding.specs.BigEndian.{bigEndian, bytesOf, numberAt, room}
+use Rattle.wire_encoding.specs.BigEndian.{bigEndian, bytesOf, room}
 use Rattle.bits.specs.Bits.{withBit}
 use Rattle.path_meta_header.specs.MetaHeader as meta
 use Rattle.meta_header_reversal.specs.Reversal as reversal
 use Rattle.meta_header_encoding.specs.Encoding as encoding
 use Rattle.path_fields.specs.Fields as fields
 use Rattle.path_fields.specs.declared.Interface.the-variants.{Id}
+use Rattle.path_error.specs.Errors.{answerOf}
+use Rattle.path_error.proofs.Told.{answer-ok}
 use Rattle.path_error.specs.declared.Answer.{Answer}
 use Rattle.path_error.specs.declared.Answer.the-variants.{Accepted}
 use Rattle.path.specs.Standard as standard
@@ -93,24 +94,24 @@ accumulators =
     accumulatorBy peered 0 ∷ accumulatorBy peered 1 ∷ accumulatorBy peered 2 ∷ accumulatorBy peered 3 ∷ accumulatorBy peered 4 ∷ accumulatorBy peered 5 ∷ []
 
 by-alone : accumulators ≡ 0x1111 ∷ 0xB01D ∷ 0xB01D ∷ 0x2222 ∷ 0x2222 ∷ 0x862D ∷ []
-unfolding bigEndian numberAt room meta.nthField meta.metaOf meta.infoFieldsCount meta.hopFieldsCount meta.segmentOf
-    meta.firstHopField meta.pathLength meta.lengthsValid meta.hopValid meta.infoValid meta.firstRefusal meta.checked meta.settled
-    meta.metaRead meta.readMeta fields.infoFieldAt standard.complete standard.readPath dataplane.standardRead
-    dataplane.readDataplane dataplane.standardAnswer dataplane.standardOf rules.ownerOf rules.spared moves.changeInside
+unfolding bigEndian room meta.nthField meta.metaOf meta.infoFieldsCount meta.hopFieldsCount meta.segmentOf
+    meta.firstHopField meta.pathLength meta.lengthsValid meta.hopValid meta.infoValid meta.checked
+    meta.readMeta fields.infoFieldAt standard.readPath
+    dataplane.readDataplane dataplane.standard rules.ownerOf rules.spared moves.changeInside
     round.metaHeaderOf round.accumulatorAfter round.accumulatorBy accumulators peered info hop hops
 by-alone = refl
 
 -- its reply's header and info fields
 reply-begins : take 20 (reply peered)
     ≡ 0x00 ∷ 0x00 ∷ 0x30 ∷ 0xC0 ∷ 0x02 ∷ 0x00 ∷ 0x86 ∷ 0x2D ∷ 0x00 ∷ 0x00 ∷ 0x00 ∷ 0x01 ∷ 0x03 ∷ 0x00 ∷ 0xB0 ∷ 0x1D ∷ 0x00 ∷ 0x00 ∷ 0x00 ∷ 0x01 ∷ []
-unfolding bigEndian bytesOf numberAt room withBit meta.nthField meta.metaOf meta.infoFieldsCount meta.hopFieldsCount
-    meta.segmentOf meta.pathLength meta.lengthsValid meta.hopValid meta.infoValid meta.firstRefusal meta.checked meta.settled
-    meta.metaRead meta.readMeta encoding.wordOf reversal.atStart reversal.reversedLengths reversal.reversedMeta standard.complete
-    standard.readPath dataplane.standardRead dataplane.readDataplane dataplane.standardAnswer dataplane.standardOf
-    dataplane.carriedOut dataplane.onStandard dataplane.answered copy.destination copy.destinationIn copy.copiedBy
-    rules.ownerOf rules.spared moves.changeInside moves.positionOf moves.moveFrom moves.applied moves.moveBytes rules.peerings
-    rules.peeringAllowed rules.stateOf rules.movableOf rules.onMovable moves.notLast moves.moved moves.walkMoves moves.walkCount
-    moves.walked reverse.reversedRecords reverse.flipped reverse.reversedPath reverse.reversedRun reverse.reversed round.metaHeaderOf
+unfolding bigEndian bytesOf room withBit meta.nthField meta.metaOf meta.infoFieldsCount meta.hopFieldsCount
+    meta.segmentOf meta.pathLength meta.lengthsValid meta.hopValid meta.infoValid meta.checked
+    meta.readMeta encoding.wordOf reversal.atStart reversal.reversedLengths reversal.reversedMeta
+    standard.readPath dataplane.readDataplane dataplane.standard
+    copy.filled copy.copy
+    rules.ownerOf rules.spared moves.changeInside moves.positionOf moves.moveFrom moves.applied moves.takesIn moves.moveBytes rules.peerings
+    rules.peeringAllowed rules.stateOf rules.movable moves.notLast moves.move moves.moved moves.walkMoves moves.walk
+    moves.walked flatten reverse.records reverse.reversedRecords reverse.flipped reverse.same reverse.reversedPath reverse.reverse round.turned round.metaHeaderOf
     round.reply peered info hop hops
 reply-begins = refl
 
@@ -134,25 +135,25 @@ leaves s = counts (s .packets) ++ (counts (s .taken) ++ begins (s .other-holds))
 
 travelled : leaves (after (begin peered) travels)
     ≡ 3 ∷ 1 ∷ 5 ∷ 0x00 ∷ 0x00 ∷ 0x30 ∷ 0xC0 ∷ 0x02 ∷ 0x00 ∷ 0x86 ∷ 0x2D ∷ 0x00 ∷ 0x00 ∷ 0x00 ∷ 0x01 ∷ 0x03 ∷ 0x00 ∷ []
-unfolding bigEndian bytesOf numberAt room withBit meta.nthField meta.metaOf meta.infoFieldsCount meta.hopFieldsCount
-    meta.segmentOf meta.pathLength meta.lengthsValid meta.hopValid meta.infoValid meta.firstRefusal meta.checked meta.settled
-    meta.metaRead meta.readMeta encoding.wordOf reversal.atStart reversal.reversedLengths reversal.reversedMeta standard.complete
-    standard.readPath dataplane.standardRead dataplane.readDataplane dataplane.standardAnswer dataplane.standardOf
-    dataplane.carriedOut dataplane.onStandard dataplane.answered copy.destination copy.destinationIn copy.copiedBy
-    rules.ownerOf rules.spared moves.changeInside moves.positionOf moves.moveFrom moves.applied moves.moveBytes rules.peerings
-    rules.peeringAllowed rules.stateOf rules.movableOf rules.onMovable moves.notLast moves.moved moves.walkMoves moves.walkCount
-    moves.walked reverse.reversedRecords reverse.flipped reverse.reversedPath reverse.reversedRun reverse.reversed round.metaHeaderOf moves.atPosition moves.movedMeta moves.moveAnswer moves.noWalk moves.walkAnswer
-    reverse.same reverse.reversedRecord reverse.reverseAnswer dataplane.answerRefused
-    round.begin round.byEnd round.onTheWay round.onPacket round.onAccepted round.sent round.packetMoved round.packetWalked round.without
+unfolding bigEndian bytesOf room withBit meta.nthField meta.metaOf meta.infoFieldsCount meta.hopFieldsCount
+    meta.segmentOf meta.pathLength meta.lengthsValid meta.hopValid meta.infoValid meta.checked
+    meta.readMeta encoding.wordOf reversal.atStart reversal.reversedLengths reversal.reversedMeta
+    standard.readPath dataplane.readDataplane dataplane.standard
+    copy.filled copy.copy
+    rules.ownerOf rules.spared moves.changeInside moves.positionOf moves.moveFrom moves.applied moves.takesIn moves.moveBytes rules.peerings
+    rules.peeringAllowed rules.stateOf rules.movable moves.notLast moves.move moves.moved moves.walkMoves moves.walk
+    moves.walked flatten reverse.records reverse.reversedRecords reverse.flipped reverse.reversedPath reverse.reverse round.turned round.metaHeaderOf moves.atPosition moves.movedMeta
+    reverse.same
+    round.begin round.byEnd round.onTheWay round.onPacket round.sent round.packetMoved round.packetWalked round.without
     round.atLast round.holding round.arrived round.step round.after travels counts begins leaves peered info hop hops
 travelled = refl
 
 -- one move back: hop field 4, its accumulator, its interfaces exchanged
 met-back : meets peered first 1 ≡ record { field = hop 4; accumulator = 0x2222; entry = Id 10; exit = Id 9 }
-unfolding bigEndian numberAt room meta.nthField meta.metaOf meta.infoFieldsCount meta.hopFieldsCount meta.segmentOf
-    meta.firstHopField meta.pathLength meta.lengthsValid meta.hopValid meta.infoValid meta.firstRefusal meta.checked meta.settled
-    meta.metaRead meta.readMeta fields.infoFieldAt fields.hopFieldAt fields.interfaceOf fields.ingressInterface fields.egressInterface
-    standard.complete standard.readPath dataplane.standardRead dataplane.readDataplane dataplane.standardAnswer dataplane.standardOf
+unfolding bigEndian room meta.nthField meta.metaOf meta.infoFieldsCount meta.hopFieldsCount meta.segmentOf
+    meta.firstHopField meta.pathLength meta.lengthsValid meta.hopValid meta.infoValid meta.checked
+    meta.readMeta fields.infoFieldAt fields.hopFieldAt fields.interfaceOf fields.ingressInterface fields.egressInterface
+    standard.readPath dataplane.readDataplane dataplane.standard
     rules.ownerOf rules.spared moves.changeInside round.metaHeaderOf round.accumulatorAfter round.accumulatorBy round.infoOf round.meeting
     round.byPath round.exchanged round.byEnd round.meets peered info hop hops
 met-back = refl
@@ -162,7 +163,7 @@ met-back = refl
 -- every number is below 256
 allBytes : List ℕ → Bool
 allBytes [] = true
-allBytes (v ∷ l) = pick (ltb v 256) (allBytes l) false
+allBytes (v ∷ l) = cond (ltb v 256) (allBytes l) false
 
 -- what the premises ask, as a value
 record Asked : Type 0 where
@@ -179,7 +180,7 @@ asked : List ℕ → Asked
 asked b =
     record {
       bytes = allBytes b;
-      answer = dataplane.standardOf 1 b .answer;
+      answer = answerOf (dataplane.standard 1 b);
       exact = eqb (length b) (meta.pathLength (metaHeaderOf b));
       few = leb (hopCount b) 64;
       peering = rules.peeringAllowed b (metaHeaderOf b);
@@ -197,21 +198,21 @@ unfolding allBytes
 every-byte [] e i = omega arith
 every-byte (v ∷ l) e zero = go (ltb v 256) refl e
   where
-    go : (t : Bool) → ltb v 256 ≡ t → pick t (allBytes l) false ≡ true → v < 256
+    go : (t : Bool) → ltb v 256 ≡ t → cond t (allBytes l) false ≡ true → v < 256
     go true p e = ltb-true v 256 p
     go false p e = let z : _≡_ {A = ℕ} 0 1 = cc in absurd (omega arith)
 every-byte (v ∷ l) e (suc i) = every-byte l (go (ltb v 256) e) i
   where
-    go : (t : Bool) → pick t (allBytes l) false ≡ true → allBytes l ≡ true
+    go : (t : Bool) → cond t (allBytes l) false ≡ true → allBytes l ≡ true
     go true e = e
     go false e = let z : _≡_ {A = ℕ} 0 1 = cc in absurd (omega arith)
 
 begun : (b : List ℕ) → asked b ≡ given → Begun b
-unfolding asked given
+unfolding asked given round.metaHeaderOf
 begun b e =
     record {
       bytes = every-byte b (ap (λ (a : Asked). a .bytes) e);
-      read = ap (λ (a : Asked). a .answer) e;
+      read = answer-ok (dataplane.standard 1 b) (meta.metaOf 0) refl refl (ap (λ (a : Asked). a .answer) e);
       exact = eqb-true (length b) (meta.pathLength (metaHeaderOf b)) (ap (λ (a : Asked). a .exact) e);
       few = leb-true (hopCount b) 64 (ap (λ (a : Asked). a .few) e);
       peering = ap (λ (a : Asked). a .peering) e;
@@ -226,10 +227,10 @@ all-given : (asked single ≡ given)
     × (asked peered ≡ given)
     × (asked shortest ≡ given)
     × (asked longest ≡ given)
-unfolding bigEndian numberAt room meta.nthField meta.metaOf meta.infoFieldsCount meta.hopFieldsCount meta.segmentOf
-    meta.pathLength meta.lengthsValid meta.hopValid meta.infoValid meta.firstRefusal meta.checked meta.settled meta.metaRead
-    meta.readMeta standard.complete standard.readPath dataplane.standardRead dataplane.readDataplane dataplane.standardAnswer
-    dataplane.standardOf rules.peerings rules.peeringAllowed round.metaHeaderOf single double triple peered shortest longest info hop
+unfolding bigEndian room meta.nthField meta.metaOf meta.infoFieldsCount meta.hopFieldsCount meta.segmentOf
+    meta.pathLength meta.lengthsValid meta.hopValid meta.infoValid meta.checked
+    meta.readMeta standard.readPath dataplane.readDataplane
+    dataplane.standard rules.peerings rules.peeringAllowed round.metaHeaderOf single double triple peered shortest longest info hop
     hops asked given allBytes
 all-given = (refl, refl, refl, refl, refl, refl)
 

@@ -3,22 +3,20 @@
 -- Assumes nothing.
 use Prim.Native.Nat.{ℕ, zero, suc, _+_, _<_}
 use mathlib.Core.Path.{_≡_, refl, sym, ap, _∙_, subst}
-use mathlib.Core.Bool.{Bool, true, false}
+use mathlib.Core.Bool.{Bool, true, false, cond}
 use mathlib.Core.List.{List, [], _∷_, _++_}
 use mathlib.Core.Option.{Option, none, some, IsSome, Option·some-injective}
 use native.Mathlib.Omega.{arith}
 use lib.Dec.{eqb}
 use lib.ListN.{length, set, getElem?}
 use borrow.Author.Tests.{eqb-true, eqb-false}
-use Rattle.wire_encoding.specs.Choice.{pick}
 use Rattle.path_meta_header.specs.MetaHeader.{hopFieldsCount, pathLength}
 use Rattle.path_meta_header.specs.declared.PathMetaHeader.{PathMetaHeader}
-use Rattle.path_error.specs.declared.Answer.{Answer}
-use Rattle.path_error.specs.declared.Answer.the-variants.{Accepted, Refused}
-use Rattle.path_error.specs.declared.PathError.{PathError}
-use Rattle.reverse.specs.Reverse.{reverseAnswer, reversed}
 use Rattle.moves.specs.Moves as moves
+use Rattle.wire_encoding.specs.Result.{told}
+use Rattle.reverse.specs.Reverse.{reverse}
 use Rattle.round_trip.specs.RoundTrip.{
+  turned,
   End,
   first,
   other,
@@ -35,7 +33,6 @@ use Rattle.round_trip.specs.RoundTrip.{
   arrival,
   onTheWay,
   onPacket,
-  onAccepted,
   sent,
   packetMoved,
   packetWalked,
@@ -65,7 +62,7 @@ use Rattle.round_trip.proofs.Calls.{
   move-accepted,
   move-refused,
   walk-accepted,
-  walk-reports,
+  walked-moves,
   turn-accepted,
   turn-refused,
 }
@@ -121,16 +118,6 @@ all-without P [] i h = tt
 all-without P (q ∷ l) zero h = h .1
 all-without P (q ∷ l) (suc i) h = (h .0, all-without P l i (h .1))
 
--- A CALL THAT IS ACCEPTED, AND ONE THAT IS REFUSED
-
-pub accepted-is : {A : Type 0} (a : Answer) (changed kept : A) → a ≡ Accepted → onAccepted a changed kept ≡ changed
-unfolding onAccepted
-accepted-is a changed kept e = rw e
-
-refused-is : {A : Type 0} (a : Answer) (changed kept : A) {error : PathError} → a ≡ Refused error → onAccepted a changed kept ≡ kept
-unfolding onAccepted
-refused-is a changed kept e = rw e
-
 -- A PACKET
 
 record Tracked (b : List ℕ) (to : End) (bytes : List ℕ) (count : ℕ) : Type 0 where
@@ -176,26 +163,22 @@ module _ (b : List ℕ) (g : Begun b) where
     moved-tracked : Each b (packetMoved q)
     unfolding packetMoved
     moved-tracked =
-        let next : Packet = record { bytes = moves.moved 1 (q .bytes); to = q .to; count = q .count + 1 } in
         by-lt (q .count + 1) N
-        (λ l. subst (Each b) (sym (accepted-is (moves.moveAnswer 1 (q .bytes) .answer) next q (move-accepted (q .bytes) m path (omega (arith, hop, hops)))))
-        (record { below = l; is = ap (moves.moved 1) (t .is) ∙ track-moved b g (q .to) (q .count) l }))
-        (λ l. subst (Each b) (sym (refused-is (moves.moveAnswer 1 (q .bytes) .answer) next q (move-refused (q .bytes) m path (omega (arith, hop, hops))))) t)
+        (λ l. rw (move-accepted (q .bytes) m path (omega (arith, hop, hops))) (record { below = l; is = ap (moves.moved 1) (t .is) ∙ track-moved b g (q .to) (q .count) l }))
+        (λ l. rw (move-refused (q .bytes) m path (omega (arith, hop, hops))) t)
 
     walked-tracked : (limit : ℕ) → Each b (packetWalked limit q)
     unfolding packetWalked
     walked-tracked limit =
-        let n : ℕ = moves.walkMoves m limit in
-        let report = moves.walkAnswer 1 (q .bytes) limit in
-        let next : Packet = record { bytes = moves.walked 1 (q .bytes) limit; to = q .to; count = q .count + report .moves } in
-        let reports : report .moves ≡ n = walk-reports (q .bytes) m path limit in
-        subst (Each b) (sym (accepted-is (report .answer) next q (walk-accepted (q .bytes) m path limit)))
-        (record {
-          below = omega (arith, reports, walk-inside b g (q .to) (q .count) (t .below) limit);
+        let made = walk-accepted (q .bytes) m path limit in
+        rw (made .is) (record {
+          below = omega (arith, made .count, walk-inside b g (q .to) (q .count) (t .below) limit);
           is =
-              ap (λ (x : List ℕ). moves.walked 1 x limit) (t .is)
+              made .left
+              ∙ sym (walked-moves (q .bytes) m path limit)
+              ∙ ap (λ (x : List ℕ). moves.walked 1 x limit) (t .is)
               ∙ track-walked b g (q .to) (q .count) (t .below) limit
-              ∙ ap (λ (c : ℕ). track b (q .to) (q .count + c)) (sym reports);
+              ∙ ap (λ (c : ℕ). track b (q .to) (q .count + c)) (sym (made .count));
         })
 
     -- where it arrives
@@ -210,7 +193,7 @@ module _ (b : List ℕ) (g : Begun b) where
     packets : All (Each b) (s .packets)
     counts : All (λ q. q .count + 1 ≡ hopCount b) (s .taken)
     first-end : s .first-holds ≡ some b
-    other-end : s .other-holds ≡ pick (reached (s .taken)) (some (reply b)) none
+    other-end : s .other-holds ≡ cond (reached (s .taken)) (some (reply b)) none
 
   at-first : Holds (begin b)
   unfolding begin All reached
@@ -236,7 +219,7 @@ module _ (b : List ℕ) (g : Begun b) where
   unfolding sent
   other-sends s v = subst (λ (o : Option (List ℕ)). Holds (sent s first o)) (sym (v .other-end)) (go (reached (s .taken)))
     where
-      go : (r : Bool) → Holds (sent s first (pick r (some (reply b)) none))
+      go : (r : Bool) → Holds (sent s first (cond r (some (reply b)) none))
       go true = sends s v first (reply b) (record { below = some-hop b g; is = reply-track b g })
       go false = v
 
@@ -252,46 +235,38 @@ module _ (b : List ℕ) (g : Begun b) where
 
   -- the end takes the packet in
   takes-in : (s : State) → Holds s → (i : ℕ) (to : End) (x : List ℕ) (c : ℕ) → Tracked b to x c → c + 1 ≡ hopCount b
-      → (dst : List ℕ) → length dst ≡ length b → Holds (holding s i (record { bytes = x; to = to; count = c }) (reversed 1 x dst))
+      → (dst : List ℕ) → length dst ≡ length b → Holds (holding s i (record { bytes = x; to = to; count = c }) (turned x dst))
   unfolding holding byEnd All reached
   takes-in s v i other x c t last dst e =
       record {
         packets = all-without (Each b) (s .packets) i (v .packets);
         counts = (last, v .counts);
         first-end = v .first-end;
-        other-end = ap {B = Option (List ℕ)} some (ap (λ (y : List ℕ). reversed 1 y dst) (t .is) ∙ turned-out b g c last dst e ∙ sym (reply-track b g));
+        other-end = ap {B = Option (List ℕ)} some (ap (λ (y : List ℕ). turned y dst) (t .is) ∙ turned-out b g c last dst e ∙ sym (reply-track b g));
       }
   takes-in s v i first x c t last dst e =
       record {
         packets = all-without (Each b) (s .packets) i (v .packets);
         counts = (last, v .counts);
-        first-end = ap {B = Option (List ℕ)} some (ap (λ (y : List ℕ). reversed 1 y dst) (t .is) ∙ turned-back b g c last dst e);
+        first-end = ap {B = Option (List ℕ)} some (ap (λ (y : List ℕ). turned y dst) (t .is) ∙ turned-back b g c last dst e);
         other-end = v .other-end;
       }
 
   arrives : (s : State) → Holds s → (i : ℕ) (dst : List ℕ) (q : Packet) → Each b q → Holds (arrived s i dst q)
-  unfolding arrived
+  unfolding arrived turned
   arrives s v i dst q t = go (atLast (q .bytes)) refl (eqb (length dst) (length b)) refl
     where
-      answer : Answer
-      answer = reverseAnswer 1 (q .bytes) (length dst) .answer
-
-      taken : State
-      taken = holding s i q (reversed 1 (q .bytes) dst)
-
       long : length b ≡ pathLength (m q t)
       long = track-length b g (q .to) (q .count) (t .below)
 
-      go : (a : Bool) → atLast (q .bytes) ≡ a → (r : Bool) → eqb (length dst) (length b) ≡ r → Holds (pick a (onAccepted answer taken s) s)
+      go : (a : Bool) → atLast (q .bytes) ≡ a → (r : Bool) → eqb (length dst) (length b) ≡ r
+          → Holds (cond a (told (reverse 1 (q .bytes) dst) (λ turn. holding s i q (turn .bytes)) (λ error. s)) s)
       go false e r f = v
       go true e true f =
           let size : length dst ≡ length b = eqb-true (length dst) (length b) f in
-          subst Holds (sym (accepted-is answer taken s (turn-accepted (q .bytes) (m q t) (path q t) dst (size ∙ long) .0)))
-          (takes-in s v i (q .to) (q .bytes) (q .count) t (last-count q t e) dst size)
-      go true e false f =
-          subst Holds
-          (sym (refused-is answer taken s (turn-refused (q .bytes) (m q t) (path q t) dst (λ size. eqb-false (length dst) (length b) f (size ∙ sym long)))))
-          v
+          let turn = turn-accepted (q .bytes) (m q t) (path q t) dst (size ∙ long) in
+          rw turn (rw turn at (takes-in s v i (q .to) (q .bytes) (q .count) t (last-count q t e) dst size))
+      go true e false f = rw (turn-refused (q .bytes) (m q t) (path q t) dst (λ size. eqb-false (length dst) (length b) f (size ∙ sym long))) v
 
   -- THE EVENTS
 

@@ -3,11 +3,10 @@
 -- Assumes nothing.
 use Prim.Native.Nat.{ℕ, _+_, _-_, _*_, _≤_, _<_}
 use mathlib.Core.Path.{_≡_, refl, sym, ap, ap₂, _∙_}
-use mathlib.Core.Bool.{Bool, true, false, not}
+use mathlib.Core.Bool.{Bool, true, false, not, cond}
 use mathlib.Core.List.{List}
 use native.Mathlib.Omega.{arith}
 use lib.ListN.{length}
-use Rattle.wire_encoding.specs.Choice.{pick}
 use Rattle.bits.specs.Bits.{bitOf}
 use Rattle.wire_encoding.specs.BigEndian.{part}
 use Rattle.path_meta_header.specs.MetaHeader.{infoFieldsCount, hopFieldsCount, segmentOf, infoStart, hopStart}
@@ -24,10 +23,9 @@ use Rattle.path_meta_header.specs.declared.PathMetaHeader.{PathMetaHeader}
 use Rattle.path_fields.specs.declared.InfoField.{InfoField}
 use Rattle.path_fields.specs.declared.HopField.{HopField}
 use Rattle.path_fields.proofs.FieldLaws.{hop-of-part}
-use Rattle.path.specs.declared.dataplane.PathAnswer.{PathAnswer}
 use Rattle.path.proofs.Links.{segment-below}
 use Rattle.moves.specs.Moves.{atPosition}
-use Rattle.move_rules.proofs.Known.{standard-read}
+use Rattle.path.proofs.Reading.{standard-read}
 use Rattle.round_trip.specs.RoundTrip.{metaHeaderOf, Meeting, infoOf, meeting, met, accumulatorBy, byPath, exchanged}
 use Rattle.round_trip.proofs.Shape.{turnedMeta, mirrorMeta}
 use Rattle.round_trip.proofs.Turned.{turnedInfo}
@@ -49,7 +47,7 @@ use Rattle.round_trip.proofs.Onward.{standingAt, Onward}
 -- reading a path finds its header
 pub header-read : (x : List ℕ) (m : PathMetaHeader) → Path x m → metaHeaderOf x ≡ m
 unfolding metaHeaderOf
-header-read x m path = ap (λ (r : PathAnswer). r .path .«meta_header») (standard-read x m (path .known .path))
+header-read x m path = rw (standard-read x m (path .known .path))
 
 -- hop field j under a header
 abbrev under : List ℕ → PathMetaHeader → ℕ → ℕ → Meeting
@@ -75,29 +73,29 @@ hop-same x y p q hx hy e =
     sym (hop-of-part x p hx) ∙ ap (λ (l : List ℕ). newHopField l .field) e ∙ hop-of-part y q hy
 
 -- the interfaces by the direction; the direction flipped exchanges them
-turn-pick : (t : Bool) (a b : ℕ) → pick (not t) a b ≡ pick t b a
+turn-pick : (t : Bool) (a b : ℕ) → cond (not t) a b ≡ cond t b a
 turn-pick true a b = refl
 turn-pick false a b = refl
 
 module _ (f g : InfoField) (h i : HopField) (same : h ≡ i) where
   ingress-same : f .flags ≡ g .flags → ingressInterface f h ≡ ingressInterface g i
   unfolding ingressInterface
-  ingress-same e = ap₂ (λ (v : ℕ) (j : HopField). interfaceOf (pick (bitOf 0 v) (j .«cons_ingress») (j .«cons_egress»))) e same
+  ingress-same e = ap₂ (λ (v : ℕ) (j : HopField). interfaceOf (cond (bitOf 0 v) (j .«cons_ingress») (j .«cons_egress»))) e same
 
   egress-same : f .flags ≡ g .flags → egressInterface f h ≡ egressInterface g i
   unfolding egressInterface
-  egress-same e = ap₂ (λ (v : ℕ) (j : HopField). interfaceOf (pick (bitOf 0 v) (j .«cons_egress») (j .«cons_ingress»))) e same
+  egress-same e = ap₂ (λ (v : ℕ) (j : HopField). interfaceOf (cond (bitOf 0 v) (j .«cons_egress») (j .«cons_ingress»))) e same
 
   ingress-turned : bitOf 0 (f .flags) ≡ not (bitOf 0 (g .flags)) → ingressInterface f h ≡ egressInterface g i
   unfolding ingressInterface egressInterface
   ingress-turned e =
-      ap₂ (λ (t : Bool) (j : HopField). interfaceOf (pick t (j .«cons_ingress») (j .«cons_egress»))) e same
+      ap₂ (λ (t : Bool) (j : HopField). interfaceOf (cond t (j .«cons_ingress») (j .«cons_egress»))) e same
       ∙ ap interfaceOf (turn-pick (bitOf 0 (g .flags)) (i .«cons_ingress») (i .«cons_egress»))
 
   egress-turned : bitOf 0 (f .flags) ≡ not (bitOf 0 (g .flags)) → egressInterface f h ≡ ingressInterface g i
   unfolding ingressInterface egressInterface
   egress-turned e =
-      ap₂ (λ (t : Bool) (j : HopField). interfaceOf (pick t (j .«cons_egress») (j .«cons_ingress»))) e same
+      ap₂ (λ (t : Bool) (j : HopField). interfaceOf (cond t (j .«cons_egress») (j .«cons_ingress»))) e same
       ∙ ap interfaceOf (turn-pick (bitOf 0 (g .flags)) (i .«cons_egress») (i .«cons_ingress»))
 
 module _ (b : List ℕ) (path : Path b (metaHeaderOf b)) (p : ℕ) (x : List ℕ) (o : Onward b p x) where

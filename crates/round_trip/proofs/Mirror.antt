@@ -3,19 +3,19 @@
 -- Assumes nothing.
 use Prim.Native.Nat.{ℕ, zero, suc, _+_, _-_, _*_, _/_, _%_, _^_, _≤_, _<_}
 use mathlib.Core.Path.{_≡_, refl, sym, ap, ap₂, _∙_, subst}
-use mathlib.Core.Bool.{Bool, true, false, not}
+use mathlib.Core.Bool.{Bool, true, false, not, cond, _&&_, _||_}
 use mathlib.Core.List.{List, [], _∷_}
 use native.Mathlib.Omega.{arith}
 use lib.Dec.{ltb, eqb}
 use lib.ListN.{length}
 use borrow.Author.Tests.{lt-ltb, eq-eqb, ltb-true, eqb-true, eqb-false}
-use Rattle.wire_encoding.specs.Choice.{pick}
 use Rattle.bits.specs.Bits.{bitOf, withBit}
 use Rattle.wire_encoding.specs.BigEndian.{bigEndian, part}
 use Rattle.bits.proofs.BitLaws.{bit-kept}
 use Rattle.wire_encoding.proofs.Parts.{Bytes}
 use Rattle.path_meta_header.specs.MetaHeader.{nthField, metaOf, segmentLength, infoFieldsCount, hopFieldsCount, pathLength, segmentOf, hopValid, infoStart, hopStart}
-use Rattle.meta_header_reversal.specs.Reversal.{atStart, reversedLengths, reversedMeta}
+use Rattle.meta_header_reversal.specs.Reversal.{atStart, reversedMeta}
+use Rattle.meta_header_reversal.proofs.ReversalLaws.{rowOf, row-is}
 use Rattle.path_fields.specs.Fields.{infoFieldAt, withConstructedDir}
 use Rattle.path_meta_header.specs.declared.PathMetaHeader.{PathMetaHeader}
 use Rattle.path_fields.specs.declared.InfoField.{InfoField}
@@ -78,7 +78,7 @@ unfolding hopValid
 hop-sound m h = go (ltb (m .«current_hop_field») (hopFieldsCount m)) refl h
   where
     go : (t : Bool) → ltb (m .«current_hop_field») (hopFieldsCount m) ≡ t
-        → pick t (eqb (segmentOf m (m .«current_hop_field»)) (m .«current_info_field»)) false ≡ true
+        → t && eqb (segmentOf m (m .«current_hop_field»)) (m .«current_info_field») ≡ true
         → (m .«current_hop_field» < hopFieldsCount m) × (segmentOf m (m .«current_hop_field») ≡ m .«current_info_field»)
     go true e h = (ltb-true (m .«current_hop_field») (hopFieldsCount m) e, eqb-true (segmentOf m (m .«current_hop_field»)) (m .«current_info_field») h)
     go false e h = let z : _≡_ {A = ℕ} 0 1 = cc in absurd (omega arith)
@@ -94,11 +94,11 @@ lengths-read : (word : ℕ) → Lengths (metaOf word)
 unfolding metaOf nthField
 lengths-read word = record { first = omega arith; second = omega arith; third = omega arith; these = refl }
 
-three-reversed : (a b c : ℕ) → length (reversedLengths a b c) ≡ 3
-unfolding reversedLengths
+three-reversed : (a b c : ℕ) → length (rowOf a b c) ≡ 3
+unfolding rowOf
 three-reversed a b c = go (eqb a 0) (eqb b 0) (eqb c 0)
   where
-    go : (x y z : Bool) → length (pick x (0 ∷ 0 ∷ 0 ∷ []) (pick y (a ∷ 0 ∷ 0 ∷ []) (pick z (b ∷ a ∷ 0 ∷ []) (c ∷ b ∷ a ∷ [])))) ≡ 3
+    go : (x y z : Bool) → length (cond x (0 ∷ 0 ∷ 0 ∷ []) (cond y (a ∷ 0 ∷ 0 ∷ []) (cond z (b ∷ a ∷ 0 ∷ []) (c ∷ b ∷ a ∷ [])))) ≡ 3
     go true y z = refl
     go false true z = refl
     go false false true = refl
@@ -213,7 +213,7 @@ module _ (x : List ℕ) (m : PathMetaHeader) (path : Path x m) where
       record {
         small = bytes-turned t m x (path .small);
         exact = length-turned t m x whole ∙ sym mirror-length;
-        word = turned-word t m x whole (three-reversed (segmentLength m 0) (segmentLength m 1) (segmentLength m 2)) mirror-fits;
+        word = turned-word t m x whole (ap length (row-is m) ∙ three-reversed (segmentLength m 0) (segmentLength m 1) (segmentLength m 2)) mirror-fits;
       }
 
   -- its peering bits are the path's
@@ -277,7 +277,7 @@ module _ (x : List ℕ) (m : PathMetaHeader) (path : Path x m) where
   unfolding mirrorMeta turnedMeta
   meta-twice =
       same-meta (mirrorMeta t) m (omega (arith, mirror-infos, info-below)) (omega (arith, mirror-hops, hop-below)) (sym (path .clear))
-      (rows-twice rows-mirror ∙ lengths .these)
+      (row-is t ∙ rows-twice rows-mirror ∙ lengths .these)
 
 module _ (x : List ℕ) (m : PathMetaHeader) (path : Path x m) where
   twice-field : (j : ℕ) → j < hopFieldsCount m → part (hopStart m j) 12 (mirror (mirrorMeta m) (mirror m x)) ≡ part (hopStart m j) 12 x
@@ -354,7 +354,7 @@ unfolding peeringAllowed
 peering-two x m allowed k l set = go (eqb (peerings x (infoFieldsCount m)) 0) (eqb (infoFieldsCount m) 2) refl refl allowed
   where
     go : (a b : Bool) → eqb (peerings x (infoFieldsCount m)) 0 ≡ a → eqb (infoFieldsCount m) 2 ≡ b
-        → pick a true (pick b (eqb (peerings x (infoFieldsCount m)) 2) false) ≡ true → infoFieldsCount m ≡ 2
+        → a || (b && eqb (peerings x (infoFieldsCount m)) 2) ≡ true → infoFieldsCount m ≡ 2
     go true b ea eb h =
         absurd
         (omega

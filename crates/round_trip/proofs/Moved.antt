@@ -1,8 +1,8 @@
 -- What a move leaves of a path: every hop field, and every info field but for the accumulator that it changes by XOR.
 -- Assumes nothing.
 use Prim.Native.Nat.{ℕ, zero, suc, _+_, _*_, _/_, _%_, _^_, _≤_, _<_}
-use mathlib.Core.Path.{_≡_, refl, sym, ap₂, _∙_}
-use mathlib.Core.Bool.{Bool, true, false}
+use mathlib.Core.Path.{_≡_, refl, sym, ap, ap₂, _∙_}
+use mathlib.Core.Bool.{Bool, true, false, cond}
 use mathlib.Core.List.{List}
 use native.Mathlib.Nat.{mod-eq-of-lt}
 use native.Mathlib.Omega.{arith}
@@ -11,7 +11,6 @@ use lib.Bits.{bitXor, xor-lt, xor-zero-r}
 use lib.ListN.{length, getD, set, length-set}
 use lib.Seq.{ext-getD, getD-set-other}
 use borrow.Author.Tests.{eqb-true, eqb-false}
-use Rattle.wire_encoding.specs.Choice.{pick}
 use Rattle.wire_encoding.specs.BigEndian.{bigEndian, bytesOf, part}
 use Rattle.wire_encoding.proofs.Parts.{length-part, getD-part}
 use Rattle.wire_encoding.proofs.Numbers.{below, read-written}
@@ -23,7 +22,7 @@ use Rattle.moves.specs.declared.Moved.{Moved}
 use Rattle.moves.specs.Moves.{CanMove, atPosition, applied, changeInside, codeOf, moveBytes, moveFrom, movedMeta, positionOf}
 use Rattle.move_rules.specs.Rules.{flagsAt, ownerOf, spared}
 use Rattle.moves.proofs.Sums.{bytes-moved}
-use Rattle.moves.proofs.Laws.{counts-kept, length-moveBytes, moved-known}
+use Rattle.moves.proofs.Laws.{counts-kept, length-moveBytes, move-applied, moved-known}
 use Rattle.move_rules.proofs.Known.{known-movable}
 use Rattle.round_trip.proofs.Mirror.{Path, info-below}
 
@@ -34,7 +33,7 @@ changedBy change f =
 
 -- what the move of a path changes the accumulator of info field k by
 unfoldable pub changeAt : List ℕ → PathMetaHeader → ℕ → ℕ
-changeAt x m k = pick (eqb k (m .«current_info_field»)) (moveFrom x m (positionOf m) .change) 0
+changeAt x m k = cond (eqb k (m .«current_info_field»)) (moveFrom x m (positionOf m) .change) 0
 
 -- TWO LISTS THAT AGREE
 
@@ -88,7 +87,7 @@ module _ (x : List ℕ) (m : PathMetaHeader) (path : Path x m) where
   unfolding changeInside
   inside-below k h = go (spared (flagsAt x k) (ownerOf (flagsAt x k) h) (segmentLength m 0))
     where
-      go : (t : Bool) → pick t 0 (codeOf x m (ownerOf (flagsAt x k) h)) < 2 ^ 16
+      go : (t : Bool) → cond t 0 (codeOf x m (ownerOf (flagsAt x k) h)) < 2 ^ 16
       go true = omega arith
       go false = code-below (ownerOf (flagsAt x k) h)
 
@@ -96,7 +95,7 @@ module _ (x : List ℕ) (m : PathMetaHeader) (path : Path x m) where
   unfolding moveFrom positionOf
   change-below = go (eqb (segmentOf m (m .«current_hop_field» + 1)) (m .«current_info_field»))
     where
-      go : (t : Bool) → pick t (changeInside x m (m .«current_info_field») (m .«current_hop_field»)) 0 < 2 ^ 16
+      go : (t : Bool) → cond t (changeInside x m (m .«current_info_field») (m .«current_hop_field»)) 0 < 2 ^ 16
       go true = inside-below (m .«current_info_field») (m .«current_hop_field»)
       go false = omega arith
 
@@ -105,10 +104,12 @@ module _ (x : List ℕ) (m : PathMetaHeader) (path : Path x m) where
   unfolding pathLength
   path-whole = path .exact
 
+  moves-as : moveBytes x m ≡ applied x (m .«current_info_field») (moveFrom x m (positionOf m))
+  moves-as = move-applied x m (path .small) (omega (arith, path-whole, info-below x m path))
+
   stays : (i : ℕ) → (i ≡ 0 → ⊥) → (i ≡ infoStart (m .«current_info_field») + 2 → ⊥) → (i ≡ infoStart (m .«current_info_field») + 3 → ⊥)
       → getD (moveBytes x m) i 0 ≡ getD x i 0
-  unfolding moveBytes
-  stays = applied-stays x (m .«current_info_field») (moveFrom x m (positionOf m))
+  stays i a b c = ap (λ (l : List ℕ). getD l i 0) moves-as ∙ applied-stays x (m .«current_info_field») (moveFrom x m (positionOf m)) i a b c
 
   pub moved-field : (j : ℕ) → j < hopFieldsCount m → part (hopStart m j) 12 (moveBytes x m) ≡ part (hopStart m j) 12 x
   moved-field j l =
@@ -118,16 +119,16 @@ module _ (x : List ℕ) (m : PathMetaHeader) (path : Path x m) where
 
   moved-accumulator : (k : ℕ) → k < infoFieldsCount m
       → bigEndian 2 (moveBytes x m) (infoStart k + 2) ≡ bitXor (bigEndian 2 x (infoStart k + 2)) (changeAt x m k)
-  unfolding moveBytes changeAt
+  unfolding changeAt
   moved-accumulator k l = go (eqb k (m .«current_info_field»)) refl
     where
       now : ℕ
       now = m .«current_info_field»
 
       go : (t : Bool) → eqb k now ≡ t
-          → bigEndian 2 (moveBytes x m) (infoStart k + 2) ≡ bitXor (bigEndian 2 x (infoStart k + 2)) (pick t (moveFrom x m (positionOf m) .change) 0)
+          → bigEndian 2 (moveBytes x m) (infoStart k + 2) ≡ bitXor (bigEndian 2 x (infoStart k + 2)) (cond t (moveFrom x m (positionOf m) .change) 0)
       go true e =
-          rw (eqb-true k now e)
+          rw (eqb-true k now e, moves-as)
           (applied-accumulator x now (moveFrom x m (positionOf m)) (omega (arith, path-whole, info-below x m path)) (below x (path .small) (infoStart now + 2) 2)
           change-below)
       go false e =
@@ -147,7 +148,7 @@ module _ (x : List ℕ) (m : PathMetaHeader) (path : Path x m) where
 
   module _ (before-last : m .«current_hop_field» + 1 < hopFieldsCount m) where
     pub can-move : CanMove x m
-    can-move = record { movable = known-movable x m (path .known); before-last = before-last }
+    can-move = record { able = known-movable x m (path .known); before-last = before-last }
 
     moved-length : pathLength (movedMeta x m) ≡ pathLength m
     unfolding pathLength

@@ -3,14 +3,13 @@
 -- Assumes nothing.
 use Prim.Native.Nat.{ℕ, zero, suc, _+_, _-_, _≤_, _<_}
 use mathlib.Core.Path.{_≡_, refl, sym, ap, ap₂, _∙_, subst}
-use mathlib.Core.Bool.{Bool, true, false}
+use mathlib.Core.Bool.{Bool, true, false, cond}
 use mathlib.Core.List.{List}
 use native.Mathlib.Numerals.{add-one}
 use native.Mathlib.Omega.{arith}
 use lib.Dec.{eqb}
 use lib.Bits.{bitXor, xor-zero-r}
 use borrow.Author.Tests.{eqb-true, eqb-false, eq-eqb, ne-eqb}
-use Rattle.wire_encoding.specs.Choice.{pick}
 use Rattle.wire_encoding.specs.BigEndian.{part}
 use Rattle.path_meta_header.specs.MetaHeader.{segmentLength, infoFieldsCount, hopFieldsCount, segmentOf, firstHopField, lengthsValid, infoStart, hopStart}
 use Rattle.path_fields.specs.Fields.{infoFieldAt}
@@ -19,7 +18,7 @@ use Rattle.path_fields.specs.declared.InfoField.{InfoField}
 use Rattle.path.proofs.Links.{segment-below}
 use Rattle.moves.specs.Moves.{atPosition, changeInside, codeOf, iterate, moveBytes, moveFrom, moved, movedMeta, positionOf}
 use Rattle.move_rules.specs.Rules.{flagsAt, ownerOf, spared}
-use Rattle.moves.proofs.Laws.{one-move}
+use Rattle.moves.proofs.Laws.{moved-is}
 use Rattle.round_trip.specs.RoundTrip.{metaHeaderOf, hopCount, accumulatorAfter, accumulatorBy}
 use Rattle.round_trip.proofs.Fields.{by-lt}
 use Rattle.round_trip.proofs.Shape.{in-first, in-second, in-third}
@@ -79,8 +78,19 @@ module _ (b : List ℕ) (p : ℕ) where
       let none : 0 - firstHopField hb (segmentOf hb 0) ≡ 0 = omega arith in
       ap (accumulatorAfter b (segmentOf hb 0)) none
 
+  after-next : (k n : ℕ) → accumulatorAfter b k (suc n) ≡ bitXor (accumulatorAfter b k n) (changeInside b hb k (firstHopField hb k + n))
+  unfolding accumulatorAfter changeInside
+  after-next k n =
+      let flags = flagsAt b k in
+      let owner = ownerOf flags (firstHopField hb k + n) in
+      go (spared flags owner (segmentLength hb 0)) (accumulatorAfter b k n) (codeOf b hb owner)
+    where
+      go : (t : Bool) (a code : ℕ) → cond t a (bitXor a code) ≡ bitXor a (cond t 0 code)
+      go true a code = sym (xor-zero-r a)
+      go false a code = refl
+
   by-inside : segmentOf hb (p + 1) ≡ segmentOf hb p → accumulatorBy b (p + 1) ≡ bitXor (accumulatorBy b p) (changeInside b hb (segmentOf hb p) p)
-  unfolding accumulatorBy accumulatorAfter
+  unfolding accumulatorBy
   by-inside same =
       let k : ℕ = segmentOf hb p in
       let before : firstHopField hb k ≤ p = first-before hb p in
@@ -88,6 +98,7 @@ module _ (b : List ℕ) (p : ℕ) where
       let at : firstHopField hb k + (p - firstHopField hb k) ≡ p = omega arith in
       ap (λ (n : ℕ). accumulatorAfter b n (p + 1 - firstHopField hb n)) same
       ∙ ap (accumulatorAfter b k) more
+      ∙ after-next k (p - firstHopField hb k)
       ∙ ap (λ (n : ℕ). bitXor (accumulatorAfter b k (p - firstHopField hb k)) (changeInside b hb k n)) at
 
   by-new : (segmentOf hb (p + 1) ≡ segmentOf hb p → ⊥) → accumulatorBy b (p + 1) ≡ infoFieldAt b (infoStart (segmentOf hb (p + 1))) .accumulator
@@ -170,8 +181,8 @@ module _ (b : List ℕ) (valid : lengthsValid (metaHeaderOf b) ≡ true) (p : �
       let f : ℕ = flagsAt b now in
       let same : flagsAt x now ≡ f = o .flags now now-below in
       let j : ℕ = ownerOf f p in
-      ap (λ (v : ℕ). pick (spared v (ownerOf v p) (segmentLength m 0)) 0 (codeOf x m (ownerOf v p))) same
-      ∙ ap (λ (c : ℕ). pick (spared f j (segmentLength m 0)) 0 c)
+      ap (λ (v : ℕ). cond (spared v (ownerOf v p) (segmentLength m 0)) 0 (codeOf x m (ownerOf v p))) same
+      ∙ ap (λ (c : ℕ). cond (spared f j (segmentLength m 0)) 0 c)
       (code-same x b (hopStart m j) (hopStart m j) (o .fields j (owner-below f p (hopFieldsCount m) l)))
 
   change-inside : next ≡ now → changeAt x mx now ≡ changeInside b m now p
@@ -222,7 +233,7 @@ module _ (b : List ℕ) (valid : lengthsValid (metaHeaderOf b) ≡ true) (p : �
       }
 
   onward-moved : Onward b (p + 1) (moved 1 x)
-  onward-moved = subst (Onward b (p + 1)) (sym (one-move x mx (can-move x mx (o .path) before-last))) onward-next
+  onward-moved = subst (Onward b (p + 1)) (sym (moved-is x mx (can-move x mx (o .path) before-last))) onward-next
 
 pub onward : (b : List ℕ) → Path b (metaHeaderOf b) → metaHeaderOf b .«current_hop_field» ≡ 0 → (p : ℕ) → p < hopCount b → Onward b p (iterate p (moved 1) b)
 onward b path start zero l = onward-start b path start

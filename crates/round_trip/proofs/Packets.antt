@@ -10,10 +10,10 @@ use native.Mathlib.Omega.{arith}
 use lib.ListN.{length, replicate, length-replicate}
 use Rattle.path_meta_header.specs.MetaHeader.{infoFieldsCount, hopFieldsCount, pathLength, segmentOf}
 use Rattle.path_meta_header.specs.declared.PathMetaHeader.{PathMetaHeader}
-use Rattle.reverse.specs.Reverse.{reversed}
 use Rattle.moves.specs.Moves.{atPosition, iterate, moveBytes, moveFrom, moved, movedMeta, positionOf, walked, walkMoves}
-use Rattle.moves.proofs.Laws.{one-move}
+use Rattle.moves.proofs.Laws.{moved-is}
 use Rattle.round_trip.specs.RoundTrip.{
+  turned,
   End,
   first,
   other,
@@ -113,8 +113,8 @@ module _ (b : List ℕ) (g : Begun b) where
         let y : List ℕ = moveBytes x mx in
         let my : PathMetaHeader = movedMeta x mx in
         let back : Path (mirror my y) (mirrorMeta my) = path-mirror y my (path-moved x mx x-path before-last) in
-        ap (moved 1) (ap₂ mirror header-next (one-move x mx (can-move x mx x-path before-last)))
-        ∙ one-move (mirror my y) (mirrorMeta my) (can-move (mirror my y) (mirrorMeta my) back (back-before-last x mx x-path before-last))
+        ap (moved 1) (ap₂ mirror header-next (moved-is x mx (can-move x mx x-path before-last)))
+        ∙ moved-is (mirror my y) (mirrorMeta my) (can-move (mirror my y) (mirrorMeta my) back (back-before-last x mx x-path before-last))
         ∙ moved-back x mx x-path before-last
 
   pub track-moved : (to : End) (p : ℕ) → p + 1 < hopCount b → moved 1 (track b to p) ≡ track b to (p + 1)
@@ -165,21 +165,22 @@ module _ (b : List ℕ) (g : Begun b) where
 
   -- at the last hop field, into a destination of B's length
   turned-mirror : (to : End) (p : ℕ) → p + 1 ≡ hopCount b → (dst : List ℕ) → length dst ≡ length b
-      → reversed 1 (track b to p) dst ≡ mirror (trackMeta b to p) (track b to p)
+      → turned (track b to p) dst ≡ mirror (trackMeta b to p) (track b to p)
+  unfolding turned
   turned-mirror to p last dst e =
       let l : p < N = omega arith in
       let x : List ℕ = track b to p in
       let mx : PathMetaHeader = trackMeta b to p in
-      turn-accepted x mx (track-path to p l) dst (e ∙ track-length to p l) .1
-      ∙ reversed-mirror x mx (track-path to p l) (omega (arith, track-pointer to p l, track-hops to p l))
+      rw (turn-accepted x mx (track-path to p l) dst (e ∙ track-length to p l))
+      (reversed-mirror x mx (track-path to p l) (omega (arith, track-pointer to p l, track-hops to p l)))
 
-  pub turned-out : (p : ℕ) → p + 1 ≡ hopCount b → (dst : List ℕ) → length dst ≡ length b → reversed 1 (track b other p) dst ≡ track b first 0
+  pub turned-out : (p : ℕ) → p + 1 ≡ hopCount b → (dst : List ℕ) → length dst ≡ length b → turned (track b other p) dst ≡ track b first 0
   unfolding track trackMeta
   turned-out p last dst e =
       let all : p ≡ N - 1 - 0 = omega arith in
       turned-mirror other p last dst e ∙ ap (λ (q : ℕ). mirror (standingAt m q) (iterate q (moved 1) b)) all
 
-  pub turned-back : (p : ℕ) → p + 1 ≡ hopCount b → (dst : List ℕ) → length dst ≡ length b → reversed 1 (track b first p) dst ≡ b
+  pub turned-back : (p : ℕ) → p + 1 ≡ hopCount b → (dst : List ℕ) → length dst ≡ length b → turned (track b first p) dst ≡ b
   unfolding track trackMeta
   turned-back p last dst e =
       let q : ℕ = N - 1 - p in
@@ -195,5 +196,5 @@ module _ (b : List ℕ) (g : Begun b) where
   reply-track =
       let last : ℕ = N - 1 in
       let dst : List ℕ = replicate (length b) 0 in
-      ap (λ (x : List ℕ). reversed 1 x dst) (track-from-start other last (omega (arith, some-hop)))
+      ap (λ (x : List ℕ). turned x dst) (track-from-start other last (omega (arith, some-hop)))
       ∙ turned-out last (omega (arith, some-hop)) dst (length-replicate (length b) 0)

@@ -9,9 +9,9 @@ use lib.ListN.{length}
 use Rattle.wire_encoding.specs.BigEndian.{part}
 use Rattle.path_meta_header.specs.MetaHeader.{infoFieldsCount, hopFieldsCount, hopStart}
 use Rattle.path_meta_header.specs.declared.PathMetaHeader.{PathMetaHeader}
-use Rattle.reverse.specs.Reverse.{reversed}
 use Rattle.moves.specs.Moves.{atPosition, iterate, moved, walked}
 use Rattle.round_trip.specs.RoundTrip.{
+  turned,
   first,
   other,
   byEnd,
@@ -81,10 +81,10 @@ module _ (b : List ℕ) (g : Begun b) where
       reply-walked-track p l ∙ sym (ap₂ mirror (header-walked q (omega arith)) (walked-track q (omega arith)))
 
   -- walked to its last hop field and turned it is the path
-  pub reply-turned : (dst : List ℕ) → length dst ≡ length b → reversed 1 (walked 1 (reply b) (hopCount b - 1)) dst ≡ b
+  pub reply-turned : (dst : List ℕ) → length dst ≡ length b → turned (walked 1 (reply b) (hopCount b - 1)) dst ≡ b
   reply-turned dst e =
       let last : N - 1 + 1 ≡ N = omega (arith, some-hop b g) in
-      ap (λ (x : List ℕ). reversed 1 x dst) (reply-walked-track (N - 1) (omega arith)) ∙ turned-back b g (N - 1) last dst e
+      ap (λ (x : List ℕ). turned x dst) (reply-walked-track (N - 1) (omega arith)) ∙ turned-back b g (N - 1) last dst e
 
   -- hop field j of the reply
   pub reply-hop-field : (j : ℕ) → j < hopCount b

@@ -11,6 +11,7 @@ use lib.ListN.{getD}
 use borrow.Author.Tests.{lt-ltb, le-ltb, eq-eqb, ne-eqb}
 use Rattle.path_meta_header.specs.MetaHeader.{segmentLength, infoFieldsCount, hopFieldsCount, segmentOf, lengthsValid}
 use Rattle.meta_header_reversal.specs.Reversal.{reversedLengths}
+use Rattle.meta_header_reversal.proofs.ReversalLaws.{rowOf, row-is}
 use Rattle.path_meta_header.specs.declared.PathMetaHeader.{PathMetaHeader}
 use Rattle.path.proofs.Links.{Segments, one, two, three, segments}
 use Rattle.round_trip.proofs.Fields.{by-lt}
@@ -22,7 +23,7 @@ turnedMeta k h m =
       «current_info_field» = k;
       «current_hop_field» = h;
       reserved = 0;
-      «segment_lengths» = reversedLengths (segmentLength m 0) (segmentLength m 1) (segmentLength m 2);
+      «segment_lengths» = reversedLengths m;
     }
 
 -- the pointers at the mirrored position
@@ -45,8 +46,8 @@ not-zero : (a : ℕ) → 1 ≤ a → eqb a 0 ≡ false
 not-zero a h = ne-eqb a 0 (λ e. omega arith)
 
 by-segments : {a b c n : ℕ} → Segments a b c n
-    → Rows a b c (getD (reversedLengths a b c) 0 0) (getD (reversedLengths a b c) 1 0) (getD (reversedLengths a b c) 2 0) n
-unfolding reversedLengths
+    → Rows a b c (getD (rowOf a b c) 0 0) (getD (rowOf a b c) 1 0) (getD (rowOf a b c) 2 0) n
+unfolding rowOf
 by-segments {a} {b} {c} (one x y z) =
     rw (not-zero a x, eq-eqb b 0 y) (row-one x y z refl refl refl refl)
 by-segments {a} {b} {c} (two x y z) =
@@ -56,7 +57,7 @@ by-segments {a} {b} {c} (three x y z) =
 
 pub rows : (m : PathMetaHeader) → lengthsValid m ≡ true → (k h : ℕ) → RowsOf m (turnedMeta k h m) (infoFieldsCount m)
 unfolding turnedMeta
-rows m valid k h = by-segments (segments m valid)
+rows m valid k h = rw (row-is m) (by-segments (segments m valid))
 
 -- and back
 pub rows-back : {a b c a′ b′ c′ n : ℕ} → Rows a b c a′ b′ c′ n → Rows a′ b′ c′ a b c n
@@ -87,8 +88,8 @@ rows-valid m t n (row-two x y z p q r e) = rw (not-zero (segmentLength m 0) x, n
 rows-valid m t n (row-three x y z p q r e) = rw (not-zero (segmentLength m 0) x, not-zero (segmentLength m 1) y)
 
 -- opposite order twice
-pub rows-twice : {a b c a′ b′ c′ n : ℕ} → Rows a b c a′ b′ c′ n → reversedLengths a′ b′ c′ ≡ a ∷ b ∷ c ∷ []
-unfolding reversedLengths
+pub rows-twice : {a b c a′ b′ c′ n : ℕ} → Rows a b c a′ b′ c′ n → rowOf a′ b′ c′ ≡ a ∷ b ∷ c ∷ []
+unfolding rowOf
 rows-twice {a} {b} {c} {a′} {b′} {c′} (row-one x y z p q r e) =
     rw (not-zero a′ (omega arith), eq-eqb b′ 0 q) (rw (p, y, z))
 rows-twice {a} {b} {c} {a′} {b′} {c′} (row-two x y z p q r e) =

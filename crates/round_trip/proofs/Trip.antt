@@ -9,12 +9,11 @@ use mathlib.Core.Option.{none, some}
 use native.Mathlib.Omega.{arith}
 use lib.ListN.{length}
 use borrow.Author.Tests.{eq-eqb}
-use Rattle.wire_encoding.specs.Choice.{pick}
 use Rattle.path_meta_header.specs.MetaHeader.{hopFieldsCount}
 use Rattle.path_meta_header.specs.declared.PathMetaHeader.{PathMetaHeader}
-use Rattle.reverse.specs.Reverse.{reverseAnswer, reversed}
 use Rattle.moves.specs.Moves as moves
 use Rattle.round_trip.specs.RoundTrip.{
+  turned,
   End,
   first,
   other,
@@ -27,7 +26,6 @@ use Rattle.round_trip.specs.RoundTrip.{
   arrival,
   onTheWay,
   onPacket,
-  onAccepted,
   sent,
   packetWalked,
   without,
@@ -45,7 +43,7 @@ use Rattle.round_trip.specs.RoundTrip.{
 }
 use Rattle.round_trip.proofs.Mirror.{Path}
 use Rattle.round_trip.proofs.Meetings.{header-read}
-use Rattle.round_trip.proofs.Calls.{walk-accepted, walk-reports, turn-accepted}
+use Rattle.round_trip.proofs.Calls.{walk-accepted, walked-moves, turn-accepted}
 use Rattle.round_trip.proofs.Packets.{
   track,
   trackMeta,
@@ -58,7 +56,6 @@ use Rattle.round_trip.proofs.Packets.{
   turned-out,
   reply-track,
 }
-use Rattle.round_trip.proofs.Journey.{accepted-is}
 use Rattle.round_trip.proofs.Reply.{reply-turned}
 
 -- a path walked to its last hop field, on the way to an end
@@ -84,19 +81,12 @@ module _ (b : List ℕ) (g : Begun b) where
     path : Path x m
     path = subst (λ (y : List ℕ). Path y m) (sym e) (track-path b g to 0 (some-hop b g))
 
-    moves-all : moves.walkAnswer 1 x last .moves ≡ last
-    unfolding moves.walkMoves
-    moves-all =
-        omega (arith, walk-reports x m path last, track-pointer b g to 0 (some-hop b g), track-hops b g to 0 (some-hop b g))
-
     walked-all : packetWalked last (record { bytes = x; to = to; count = 0 }) ≡ atEnd b to x
-    unfolding packetWalked
+    unfolding packetWalked moves.walkMoves
     walked-all =
-        let start : Packet = record { bytes = x; to = to; count = 0 } in
-        let report = moves.walkAnswer 1 x last in
-        let all : 0 + report .moves ≡ last = omega (arith, moves-all) in
-        accepted-is (report .answer) (record { bytes = moves.walked 1 x last; to = to; count = 0 + report .moves }) start (walk-accepted x m path last)
-        ∙ ap {B = Packet} (λ (c : ℕ). record { bytes = moves.walked 1 x last; to = to; count = c }) all
+        let made = walk-accepted x m path last in
+        let count : 0 + made .gone .moves ≡ last = omega (arith, made .count, track-pointer b g to 0 (some-hop b g), track-hops b g to 0 (some-hop b g)) in
+        rw (made .is, count, made .left, walked-moves x m path last)
 
     end-track : moves.walked 1 x last ≡ track b to last
     end-track = ap (λ (y : List ℕ). moves.walked 1 y last) e ∙ track-from-start b g to last last-below
@@ -120,22 +110,18 @@ module _ (b : List ℕ) (g : Begun b) where
         ))
 
     arrives-all : (s : State) (i : ℕ) (dst : List ℕ) → length dst ≡ length b
-        → arrived s i dst (atEnd b to x) ≡ holding s i (atEnd b to x) (reversed 1 (moves.walked 1 x last) dst)
-    unfolding arrived
+        → arrived s i dst (atEnd b to x) ≡ holding s i (atEnd b to x) (turned (moves.walked 1 x last) dst)
+    unfolding arrived turned
     arrives-all s i dst size =
-        let y : List ℕ = moves.walked 1 x last in
-        let taken : State = holding s i (atEnd b to x) (reversed 1 y dst) in
-        let answer = reverseAnswer 1 y (length dst) .answer in
-        ap (λ t. pick t (onAccepted answer taken s) s) at-last
-        ∙ accepted-is answer taken s (turn-accepted y (trackMeta b to last) end-path dst (size ∙ track-length b g to last last-below) .0)
+        rw (at-last, turn-accepted (moves.walked 1 x last) (trackMeta b to last) end-path dst (size ∙ track-length b g to last last-below))
 
   -- OUT
 
-  out-turned : (dst : List ℕ) → length dst ≡ length b → reversed 1 (moves.walked 1 b last) dst ≡ reply b
+  out-turned : (dst : List ℕ) → length dst ≡ length b → turned (moves.walked 1 b last) dst ≡ reply b
   unfolding track
   out-turned dst size =
       let all : last + 1 ≡ N = omega (arith, some-hop b g) in
-      ap (λ (y : List ℕ). reversed 1 y dst) (end-track other b refl) ∙ turned-out b g last all dst size ∙ sym (reply-track b g)
+      ap (λ (y : List ℕ). turned y dst) (end-track other b refl) ∙ turned-out b g last all dst size ∙ sym (reply-track b g)
 
   there-holds : (dst : List ℕ) → length dst ≡ length b
       → after (begin b) (sending first ∷ walk 0 last ∷ arrival 0 dst ∷ [])

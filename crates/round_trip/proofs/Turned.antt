@@ -2,9 +2,9 @@
 -- hop field j is hop field N − 1 − j as it was.
 -- Assumes nothing.
 use Prim.Native.Nat.{ℕ, zero, suc, _+_, _-_, _*_, _/_, _%_, _≤_, _<_}
-use mathlib.Core.Path.{_≡_, refl, sym, ap, _∙_}
+use mathlib.Core.Path.{_≡_, refl, sym, ap, _∙_, subst}
 use mathlib.Core.Bool.{not}
-use mathlib.Core.List.{List, [], _∷_, _++_}
+use mathlib.Core.List.{List, [], _∷_, _++_, flatten}
 use native.Mathlib.Nat.{add-comm, suc-mul, zero-mul, mod-eq-of-lt}
 use native.Mathlib.Omega.{arith}
 use lib.ListN.{length, take, drop, length-append, length-drop}
@@ -22,8 +22,8 @@ use Rattle.path_meta_header.specs.declared.PathMetaHeader.{PathMetaHeader}
 use Rattle.path_fields.specs.declared.InfoField.{InfoField}
 use Rattle.path_fields.proofs.FieldLaws.{info-of-part}
 use Rattle.meta_header_encoding.proofs.EncodingLaws.{Fitting, word-below, meta-back}
-use Rattle.reverse.specs.Reverse.{reversedRecords, flipped, same}
-use Rattle.reverse.proofs.Laws.{Sized, sized-flipped, sized-same, length-reversedRecords}
+use Rattle.reverse.specs.Reverse.{records, reversedRecords, flipped, same}
+use Rattle.reverse.proofs.Laws.{Sized, sized-flipped, sized-same, last-first, length-reversedRecords}
 
 -- the path reversed, under this header
 unfoldable pub turnedAs : PathMetaHeader → PathMetaHeader → List ℕ → List ℕ
@@ -53,14 +53,14 @@ part-drop from at n x = ap (take n) (drop-drop at from x)
 module _ (f : List ℕ → List ℕ) (sized : Sized f) (s : ℕ) where
   record-at : (n j : ℕ) (bytes : List ℕ) → j < n → n * s ≤ length bytes
       → part (j * s) s (reversedRecords f s n bytes) ≡ f (part ((n - 1 - j) * s) s bytes)
-  unfolding reversedRecords
   record-at zero j bytes l h = absurd (omega arith)
   record-at (suc n) zero bytes l h =
       let more : suc n * s ≡ n * s + s = suc-mul n s in
       let none : zero * s ≡ 0 = zero-mul s in
       let last : List ℕ = f (part (n * s) s bytes) in
       let at : n ≡ suc n - 1 - 0 = omega arith in
-      ap (λ (p : ℕ). part p s (last ++ reversedRecords f s n bytes)) none
+      ap (part (zero * s) s) (last-first f s n bytes)
+      ∙ ap (λ (p : ℕ). part p s (last ++ reversedRecords f s n bytes)) none
       ∙ take-at last (reversedRecords f s n bytes) s (sized (part (n * s) s bytes) ∙ length-part (n * s) s bytes (omega arith))
       ∙ ap (λ (i : ℕ). f (part (i * s) s bytes)) at
   record-at (suc n) (suc j) bytes l h =
@@ -68,7 +68,8 @@ module _ (f : List ℕ → List ℕ) (sized : Sized f) (s : ℕ) where
       let next : suc j * s ≡ s + j * s = suc-mul j s ∙ add-comm (j * s) s in
       let last : List ℕ = f (part (n * s) s bytes) in
       let at : n - 1 - j ≡ suc n - 1 - suc j = omega arith in
-      ap (λ (p : ℕ). part p s (last ++ reversedRecords f s n bytes)) next
+      ap (part (suc j * s) s) (last-first f s n bytes)
+      ∙ ap (λ (p : ℕ). part p s (last ++ reversedRecords f s n bytes)) next
       ∙ part-right s (j * s) s last (reversedRecords f s n bytes) (sized (part (n * s) s bytes) ∙ length-part (n * s) s bytes (omega arith))
       ∙ record-at n j bytes (omega arith) (omega arith)
       ∙ ap (λ (i : ℕ). f (part (i * s) s bytes)) at
@@ -189,11 +190,12 @@ bytes-flipped (v ∷ l) h zero = omega (arith, h zero, flag-above v)
 bytes-flipped (v ∷ l) h (suc k) = h (suc k)
 
 bytes-records : (f : List ℕ → List ℕ) → ((l : List ℕ) → Bytes l → Bytes (f l)) → (s n : ℕ) (l : List ℕ) → Bytes l → Bytes (reversedRecords f s n l)
-unfolding reversedRecords
+unfolding reversedRecords records flatten
 bytes-records f kept s zero l h = λ k. omega arith
 bytes-records f kept s (suc n) l h =
-    bytes-append (f (part (n * s) s l)) (reversedRecords f s n l) (kept (part (n * s) s l) (bytes-take s (drop (n * s) l) (bytes-drop (n * s) l h)))
-    (bytes-records f kept s n l h)
+    subst (λ (x : List ℕ). Bytes x) (sym (last-first f s n l))
+    (bytes-append (f (part (n * s) s l)) (reversedRecords f s n l) (kept (part (n * s) s l) (bytes-take s (drop (n * s) l) (bytes-drop (n * s) l h)))
+    (bytes-records f kept s n l h))
 
 pub bytes-turned : (h m : PathMetaHeader) (x : List ℕ) → Bytes x → Bytes (turnedAs h m x)
 unfolding turnedAs same

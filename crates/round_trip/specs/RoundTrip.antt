@@ -2,22 +2,20 @@
 -- claim about it. Quoted are 01's words. A move, a walk and a turn are the definitions that the contracts of these calls cite.
 use Prim.Native.Nat.{ℕ, zero, suc, _+_, _-_, _≤_, _<_}
 use mathlib.Core.Path.{_≡_}
-use mathlib.Core.Bool.{Bool, true, false}
+use mathlib.Core.Bool.{Bool, true, false, cond}
 use mathlib.Core.List.{List, [], _∷_, _++_}
 use mathlib.Core.Option.{Option, none, some}
 use lib.ListN.{length, getD, set, replicate, getElem?}
 use lib.Dec.{eqb}
 use lib.Bits.{bitXor}
-use Rattle.wire_encoding.specs.Choice.{pick}
+use Rattle.wire_encoding.specs.Result.{ok, orElse, told}
 use Rattle.wire_encoding.specs.BigEndian.{part}
-use Rattle.path_meta_header.specs.MetaHeader.{hopFieldsCount, pathLength, segmentOf, firstHopField, infoStart, hopStart}
+use Rattle.path_meta_header.specs.MetaHeader.{metaOf, segmentLength, hopFieldsCount, pathLength, segmentOf, firstHopField, infoStart, hopStart}
 use Rattle.path_fields.specs.Fields.{infoFieldAt, hopFieldAt, ingressInterface, egressInterface}
 use Rattle.path_meta_header.specs.declared.PathMetaHeader.{PathMetaHeader}
 use Rattle.path_fields.specs.declared.InfoField.{InfoField}
 use Rattle.path_fields.specs.declared.Interface.{Interface}
-use Rattle.path_error.specs.declared.Answer.{Answer}
-use Rattle.path_error.specs.declared.Answer.the-variants.{Accepted, Refused}
-use Rattle.path.specs.Dataplane.{standardOf}
+use Rattle.path.specs.Dataplane.{standard, contents}
 use Rattle.reverse.specs.Reverse as reverse
 use Rattle.moves.specs.Moves as moves
 use Rattle.move_rules.specs.Rules as rules
@@ -69,26 +67,22 @@ unfoldable pub onPacket : State → Option Packet → (Packet → State) → Sta
 onPacket s none event = s
 onPacket s (some packet) event = event packet
 
--- "a refused call (15, or 9 at the turn) change nothing"
-unfoldable pub onAccepted : {A : Type 0} → Answer → A → A → A
-onAccepted Accepted changed kept = changed
-onAccepted (Refused error) changed kept = kept
-
 -- "Sending by an end: a copy of what it holds goes on the way to the other end, count 0."; "An end with nothing to send … change nothing"
 unfoldable pub sent : State → End → Option (List ℕ) → State
 sent s to none = s
 sent s to (some path) = onTheWay s (s .packets ++ (record { bytes = path; to = to; count = 0 } ∷ []))
 
--- "Single move … of a packet: the call on its bytes; the count gains 1"
+-- "Single move … of a packet: the call on its bytes; the count gains 1"; "a refused call (15 …) change nothing"
 unfoldable pub packetMoved : Packet → Packet
 packetMoved q =
-    onAccepted (moves.moveAnswer 1 (q .bytes) .answer) (record { bytes = moves.moved 1 (q .bytes); to = q .to; count = q .count + 1 }) q
+    told (moves.move 1 (q .bytes)) (λ bytes. record { bytes = bytes; to = q .to; count = q .count + 1 })
+    (λ error. q)
 
 -- "or walk with any limit, of a packet: the call on its bytes; the count gains … what the walk reports"
 unfoldable pub packetWalked : ℕ → Packet → Packet
 packetWalked limit q =
-    let report = moves.walkAnswer 1 (q .bytes) limit in
-    onAccepted (report .answer) (record { bytes = moves.walked 1 (q .bytes) limit; to = q .to; count = q .count + report .moves }) q
+    told (moves.walk 1 (q .bytes) limit) (λ way. record { bytes = way .bytes; to = q .to; count = q .count + way .moves })
+    (λ error. q)
 
 -- "Loss: the packet is gone."
 unfoldable pub without : ℕ → List Packet → List Packet
@@ -98,7 +92,7 @@ without (suc i) (q ∷ packets) = q ∷ without i packets
 
 -- the header that reading a path hands back
 unfoldable pub metaHeaderOf : List ℕ → PathMetaHeader
-metaHeaderOf bytes = standardOf 1 bytes .path .«meta_header»
+metaHeaderOf bytes = orElse (standard 1 bytes) (metaOf 0)
 
 -- N, and the hop pointer
 abbrev pub hopCount : List ℕ → ℕ
@@ -124,10 +118,8 @@ holding s i q path =
 -- "Arrival: a packet whose hop pointer is N − 1 is turned into a destination that its end lends"; "an arrival elsewhere than at N − 1 … change nothing"
 unfoldable pub arrived : State → ℕ → List ℕ → Packet → State
 arrived s i destination q =
-    pick (atLast (q .bytes))
-    (onAccepted (reverse.reverseAnswer 1 (q .bytes) (length destination) .answer)
-    (holding s i q (reverse.reversed 1 (q .bytes) destination))
-    s)
+    cond (atLast (q .bytes))
+    (told (reverse.reverse 1 (q .bytes) destination) (λ turn. holding s i q (turn .bytes)) (λ error. s))
     s
 
 unfoldable pub step : State → Event → State
@@ -177,7 +169,10 @@ met bytes = meeting bytes (pointer bytes) (infoOf bytes (pointer bytes) .accumul
 unfoldable pub accumulatorAfter : List ℕ → ℕ → ℕ → ℕ
 accumulatorAfter b k zero = infoFieldAt b (infoStart k) .accumulator
 accumulatorAfter b k (suc n) =
-    bitXor (accumulatorAfter b k n) (moves.changeInside b (metaHeaderOf b) k (firstHopField (metaHeaderOf b) k + n))
+    let m = metaHeaderOf b in
+    let flags = rules.flagsAt b k in
+    let owner = rules.ownerOf flags (firstHopField m k + n) in
+    cond (rules.spared flags owner (segmentLength m 0)) (accumulatorAfter b k n) (bitXor (accumulatorAfter b k n) (moves.codeOf b m owner))
 
 -- "Hop field i of B has its accumulator by B alone … from its first hop field to i"
 unfoldable pub accumulatorBy : List ℕ → ℕ → ℕ
@@ -197,7 +192,7 @@ exchanged x = record { field = x .field; accumulator = x .accumulator; entry = x
 
 pub record Begun (b : List ℕ) : Type 0 where
   pub bytes : (i : ℕ) → getD b i 0 < 256
-  pub read : standardOf 1 b .answer ≡ Accepted
+  pub read : standard 1 b ≡ ok (metaHeaderOf b)
   pub exact : length b ≡ pathLength (metaHeaderOf b)
   pub few : hopCount b ≤ 64
   pub peering : rules.peeringAllowed b (metaHeaderOf b) ≡ true
@@ -214,7 +209,7 @@ meets b to p = byEnd to (exchanged (byPath b (hopCount b - 1 - p))) (byPath b p)
 
 pub record Stands (b : List ℕ) (q : Packet) : Type 0 where
   -- its bytes are a path that is read, with B's number of hop fields
-  pub read : standardOf 1 (q .bytes) .answer ≡ Accepted
+  pub read : standard 1 (q .bytes) ≡ ok (metaHeaderOf (q .bytes))
   pub long : hopCount (q .bytes) ≡ hopCount b
   -- "a packet's count is its hop pointer p"
   pub counted : q .count ≡ pointer (q .bytes)
@@ -226,8 +221,11 @@ All P [] = Unit {0}
 All P (a ∷ l) = P a × All P l
 
 -- "B walked to N − 1 and turned": the calls one after the other, the turn into a destination of B's length
+unfoldable pub turned : List ℕ → List ℕ → List ℕ
+turned bytes destination = contents (reverse.reverse 1 bytes destination) destination
+
 unfoldable pub reply : List ℕ → List ℕ
-reply b = reverse.reversed 1 (moves.walked 1 b (hopCount b - 1)) (replicate (length b) 0)
+reply b = turned (moves.walked 1 b (hopCount b - 1)) (replicate (length b) 0)
 
 -- whether the other end has taken an arrival
 unfoldable pub reached : List Packet → Bool
@@ -244,7 +242,7 @@ pub record Claim (b : List ℕ) (s : State) : Type 0 where
   -- "The first sender holds B"
   pub first-end : s .first-holds ≡ some b
   -- "the other end holds nothing until it takes an arrival, and from then on B walked to N − 1 and turned"
-  pub other-end : s .other-holds ≡ pick (reached (s .taken)) (some (reply b)) none
+  pub other-end : s .other-holds ≡ cond (reached (s .taken)) (some (reply b)) none
 
 -- "All this is a single claim about the list, and not one for each call."
 abbrev pub RoundTrip : Type 0

@@ -12,7 +12,7 @@ use Rattle.path_error.specs.declared.PathError.{PathError}
 use Rattle.path_error.specs.declared.PathError.the-variants as path
 use Rattle.path_error.specs.declared.DecodeError.{DecodeError}
 use Rattle.path_error.specs.declared.DecodeError.the-variants as decode
-use Rattle.path.specs.Standard.{zeroPath}
+use Rattle.path.specs.Standard.{pathUnder}
 use Rattle.scion_answer.specs.declared.ScionPath.{ScionPath}
 use Rattle.scion_answer.specs.Answer.{answerOut, decodedOut, pathOut}
 
@@ -49,6 +49,6 @@ read-value-of-2-and-3 (decoded.Refused error) not-2 not-3 = decode-value error n
 abbrev pub zeros : ScionPath
 zeros = record { «current_info_field» = 0; «current_hop_field» = 0; reserved = 0; «segment_lengths» = 0 ∷ 0 ∷ 0 ∷ [] }
 
-pub path-refused : pathOut zeroPath ≡ zeros
-unfolding pathOut zeroPath metaOf nthField
+pub path-refused : pathOut (pathUnder (metaOf 0)) ≡ zeros
+unfolding pathOut metaOf nthField
 path-refused = refl

@@ -5,10 +5,11 @@ use lib.ListN.{replicate}
 use Rattle.path_meta_header.specs.MetaHeader.{metaOf, nthField}
 use Rattle.path_error.specs.declared.Decoded.the-variants.{Refused}
 use Rattle.path_error.specs.declared.DecodeError.{DecodeError}
-use Rattle.path.specs.Standard.{zeroPath}
-use Rattle.common_header.specs.CommonHeader.{zeroCommon}
-use Rattle.address_header.specs.AddressHeader.{kindOf, zeroAddress}
-use Rattle.packet.specs.Raw.{packetRefused}
+use Rattle.wire_encoding.specs.Result.{refused}
+use Rattle.wire_encoding.specs.BigEndian.{bigEndian}
+use Rattle.packet_common_header.specs.CommonHeader.{commonAt, hostLength, zeroCommon}
+use Rattle.packet_address_header.specs.AddressHeader.{kindOf, hostOfKind, padded, hostAt, addressAt, zeroAddress}
+use Rattle.packet.specs.Raw.{packetAnswer}
 use Rattle.scion_answer.specs.Answer.{decodedOut, pathOut, partOut}
 use Rattle.scion_answer.proofs.Refusals.{zeros}
 use Rattle.scion_packets.specs.declared.ScionHost.{ScionHost}
@@ -17,6 +18,6 @@ use Rattle.scion_packets.specs.Packets.{hostOut, packetOut}
 abbrev zero-host : ScionHost
 zero-host = record { kind = 0; service = 0; bytes = replicate 16 0 }
 
-pub packet-refused : (error : DecodeError) → packetOut (packetRefused error) ≡ record { answer = decodedOut (Refused error); path = zeros; version = 0; «traffic_class» = 0; «next_header» = 0; «header_length_factor» = 0; «path_type» = 0; «payload_length» = 0; reserved = 0; «flow_id» = 0; «destination_ia» = 0; «source_ia» = 0; destination = zero-host; source = zero-host; «path_part» = record { start = 0; len = 0 }; «payload_part» = record { start = 0; len = 0 } }
-unfolding packetOut packetRefused pathOut partOut hostOut zeroPath zeroCommon zeroAddress kindOf metaOf nthField
+pub packet-refused : (error : DecodeError) → packetOut (packetAnswer (refused error)) ≡ record { answer = decodedOut (Refused error); path = zeros; version = 0; «traffic_class» = 0; «next_header» = 0; «header_length_factor» = 0; «path_type» = 0; «payload_length» = 0; reserved = 0; «flow_id» = 0; «destination_ia» = 0; «source_ia» = 0; destination = zero-host; source = zero-host; «path_part» = record { start = 0; len = 0 }; «payload_part» = record { start = 0; len = 0 } }
+unfolding packetOut packetAnswer pathOut partOut hostOut zeroCommon commonAt zeroAddress addressAt hostAt hostOfKind padded hostLength bigEndian kindOf metaOf nthField
 packet-refused error = refl

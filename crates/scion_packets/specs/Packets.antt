@@ -1,15 +1,15 @@
 -- What the calls on packets hand to C, and what they take from it, field by field.
 use Prim.Native.Nat.{ℕ}
 use lib.Dec.{eqb}
-use Rattle.wire_encoding.specs.Choice.{pick}
+use mathlib.Core.Bool.{cond}
 use Rattle.address.specs.declared.host.HostAddr.the-variants.{V4, V6, Svc}
-use Rattle.address_header.specs.AddressHeader.{kindOf, hostOfKind}
-use Rattle.common_header_encoding.specs.Encoding.{encodedNumber}
-use Rattle.address_header.specs.declared.MaybeEncoded.{MaybeEncoded}
-use Rattle.address_header.specs.declared.MaybeEncoded.the-variants as host
-use Rattle.address_header.specs.declared.HostAddress.{HostAddress}
-use Rattle.address_header.specs.declared.AddressHeader.{AddressHeader}
-use Rattle.common_header_encoding.specs.declared.error.Encoded.{Encoded}
+use Rattle.packet_address_header.specs.AddressHeader.{kindOf, hostOfKind}
+use Rattle.path_error.specs.Errors.{encodedNumber}
+use Rattle.packet_address_header.specs.declared.MaybeEncoded.{MaybeEncoded}
+use Rattle.packet_address_header.specs.declared.MaybeEncoded.the-variants as host
+use Rattle.packet_address_header.specs.declared.HostAddress.{HostAddress}
+use Rattle.packet_address_header.specs.declared.AddressHeader.{AddressHeader}
+use Rattle.path_error.specs.declared.Encoded.{Encoded}
 use Rattle.packet.specs.declared.raw.ScionPacketRaw.{ScionPacketRaw}
 use Rattle.headers.specs.declared.ScionHeaders as library
 use Rattle.scion_answer.specs.Answer.{decodedOut, pathOut, partOut}
@@ -34,7 +34,7 @@ hostOut a = record { kind = kindOf (a .host); service = serviceOf (a .host); byt
 -- a host to be written: 4 is a service, 0 IPv4, 3 IPv6, any other opaque
 unfoldable pub hostIn : ScionHost → HostAddress
 hostIn c =
-    record { host = pick (eqb (c .kind) 4) (host.Decoded (Svc (record { 0 = c .service }))) (hostOfKind (c .kind)); bytes = c .bytes }
+    record { host = cond (eqb (c .kind) 4) (host.Decoded (Svc (record { 0 = c .service }))) (hostOfKind (c .kind)); bytes = c .bytes }
 
 -- both ends
 unfoldable pub addressIn : ℕ → ScionHost → ℕ → ScionHost → AddressHeader

@@ -2,12 +2,12 @@
 use address::host::HostAddr;
 use address::ia::IsdAsn;
 use address::service::ServiceAddr;
-use address_header::AddressHeader;
-use address_header::HostAddress;
-use address_header::MaybeEncoded;
-use common_header_encoding::error::Encoded;
 use headers::ScionHeaders as Headers;
 use packet::raw::ScionPacketRaw;
+use packet_address_header::AddressHeader;
+use packet_address_header::HostAddress;
+use packet_address_header::MaybeEncoded;
+use path_error::Encoded;
 use scion_answer::ScionAnswer;
 use scion_answer::ScionPart;
 use scion_answer::ScionPath;

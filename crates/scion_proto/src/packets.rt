@@ -12,15 +12,16 @@ use scion_packets::headers_out;
 use scion_packets::packet_out;
 ghost use mathlib.Core.Path.{_≡_};
 ghost use lib.ListN.{length};
-ghost use Rattle.packet.specs.Raw.{readPacket};
-ghost use Rattle.common_header_encoding.specs.Encoding.{encoded};
+ghost use Rattle.wire_encoding.specs.Result.{orElse};
+ghost use Rattle.path_error.specs.Errors.{encodedOf};
+ghost use Rattle.packet.specs.Raw.{readPacket, packetAnswer};
 ghost use Rattle.headers.specs.Headers as headers;
 ghost use Rattle.scion_packets.specs.Packets as spec;
 
 // Splits the packet that begins `bytes`.
 #[no_mangle]
 pub extern "C" fn scion_read_packet(bytes: &[u8]) -> ScionPacket
-    ensures { λ r. ⌜ r ≡ spec.packetOut (readPacket (now (bytes .entry))) ⌝ }
+    ensures { λ r. ⌜ r ≡ spec.packetOut (packetAnswer (readPacket (now (bytes .entry)))) ⌝ }
 {
     packet_out(ScionPacketRaw::decode(bytes))
 }
@@ -68,10 +69,10 @@ pub extern "C" fn scion_write_headers(
     path: &[u8],
     dst: &mut [u8],
 ) -> ScionAnswer
-    ensures { λ r. ⌜ r ≡ spec.encodedOut (headers.encoding (spec.headersIn given) (length (now (path .entry))) (length (now (dst .entry)))) ⌝ }
+    ensures { λ r. ⌜ r ≡ spec.encodedOut (encodedOf (headers.writeHeaders (spec.headersIn given) (now (path .entry)) (length (now (dst .entry))))) ⌝ }
     ensures { λ _.
         ⌜ now (dst .exit)
-        ≡ encoded (headers.encoding (spec.headersIn given) (length (now (path .entry))) (length (now (dst .entry)))) (headers.headerBytes (spec.headersIn given) (now (path .entry))) (now (dst .entry)) ⌝ }
+        ≡ orElse (headers.writeHeaders (spec.headersIn given) (now (path .entry)) (length (now (dst .entry)))) (now (dst .entry)) ⌝ }
 {
     encoded_out(headers_in(given).encode_to(path, dst))
 }
@@ -92,10 +93,10 @@ pub extern "C" fn scion_write_new_headers(
 ) -> ScionAnswer
     ensures { λ r.
         ⌜ r
-        ≡ spec.encodedOut (headers.encoding (headers.newHeaders (spec.addressIn «destination_ia» destination «source_ia» source) «path_type» (length (now (path .entry))) «next_header» «payload_length» «flow_id») (length (now (path .entry))) (length (now (dst .entry)))) ⌝ }
+        ≡ spec.encodedOut (encodedOf (headers.writeHeaders (headers.newHeaders (spec.addressIn «destination_ia» destination «source_ia» source) «path_type» (length (now (path .entry))) «next_header» «payload_length» «flow_id») (now (path .entry)) (length (now (dst .entry))))) ⌝ }
     ensures { λ _.
         ⌜ now (dst .exit)
-        ≡ encoded (headers.encoding (headers.newHeaders (spec.addressIn «destination_ia» destination «source_ia» source) «path_type» (length (now (path .entry))) «next_header» «payload_length» «flow_id») (length (now (path .entry))) (length (now (dst .entry)))) (headers.headerBytes (headers.newHeaders (spec.addressIn «destination_ia» destination «source_ia» source) «path_type» (length (now (path .entry))) «next_header» «payload_length» «flow_id») (now (path .entry))) (now (dst .entry)) ⌝ }
+        ≡ orElse (headers.writeHeaders (headers.newHeaders (spec.addressIn «destination_ia» destination «source_ia» source) «path_type» (length (now (path .entry))) «next_header» «payload_length» «flow_id») (now (path .entry)) (length (now (dst .entry)))) (now (dst .entry)) ⌝ }
 {
     let address = address_in(destination_ia, destination, source_ia, source);
     let made = Headers::new(

@@ -25,7 +25,7 @@ use scion_paths::segment_out;
 use scion_paths::time_left_out;
 use scion_paths::walk_out;
 ghost use mathlib.Core.Path.{_≡_};
-ghost use lib.ListN.{length};
+ghost use Rattle.wire_encoding.specs.Result.{andThen};
 ghost use Rattle.path.specs.Dataplane as dataplane;
 ghost use Rattle.path_copy.specs.Copy as copy;
 ghost use Rattle.path_expiry.specs.Expiry as expiry;
@@ -37,7 +37,7 @@ ghost use Rattle.scion_paths.specs.Paths as spec;
 // Reads a path by its type: its record, and how many of the bytes are the path's.
 #[no_mangle]
 pub extern "C" fn scion_read_path(path_type: u8, bytes: &[u8]) -> ScionPathRead
-    ensures { λ r. ⌜ r ≡ spec.pathReadOut (dataplane.readDataplane «path_type» (now (bytes .entry))) ⌝ }
+    ensures { λ r. ⌜ r ≡ spec.pathReadOut (dataplane.dataplaneRead (dataplane.readDataplane «path_type» (now (bytes .entry)))) ⌝ }
 {
     path_read_out(DataplanePath::new(path_type).decode(bytes))
 }
@@ -45,7 +45,7 @@ pub extern "C" fn scion_read_path(path_type: u8, bytes: &[u8]) -> ScionPathRead
 // Info field `index`.
 #[no_mangle]
 pub extern "C" fn scion_info_field(path_type: u8, bytes: &[u8], index: usize) -> ScionInfoField
-    ensures { λ r. ⌜ r ≡ spec.infoFieldOut (now (bytes .entry)) (dataplane.infoFieldIn «path_type» (now (bytes .entry)) index) ⌝ }
+    ensures { λ r. ⌜ r ≡ spec.infoFieldOut (now (bytes .entry)) (dataplane.located (dataplane.standard «path_type» (now (bytes .entry))) (dataplane.infoFieldIn «path_type» (now (bytes .entry)) index)) ⌝ }
 {
     info_field_out(
         bytes,
@@ -56,7 +56,7 @@ pub extern "C" fn scion_info_field(path_type: u8, bytes: &[u8], index: usize) ->
 // Hop field `index`.
 #[no_mangle]
 pub extern "C" fn scion_hop_field(path_type: u8, bytes: &[u8], index: usize) -> ScionHopField
-    ensures { λ r. ⌜ r ≡ spec.hopFieldOut (now (bytes .entry)) (dataplane.hopFieldIn «path_type» (now (bytes .entry)) index) ⌝ }
+    ensures { λ r. ⌜ r ≡ spec.hopFieldOut (now (bytes .entry)) (dataplane.located (dataplane.standard «path_type» (now (bytes .entry))) (dataplane.hopFieldIn «path_type» (now (bytes .entry)) index)) ⌝ }
 {
     hop_field_out(
         bytes,
@@ -67,7 +67,7 @@ pub extern "C" fn scion_hop_field(path_type: u8, bytes: &[u8], index: usize) -> 
 // Segment `index`: where its info field and its hop fields lie.
 #[no_mangle]
 pub extern "C" fn scion_segment(path_type: u8, bytes: &[u8], index: usize) -> ScionSegment
-    ensures { λ r. ⌜ r ≡ spec.segmentOut (dataplane.segmentIn «path_type» (now (bytes .entry)) index) ⌝ }
+    ensures { λ r. ⌜ r ≡ spec.segmentOut (dataplane.segment (dataplane.standard «path_type» (now (bytes .entry))) (dataplane.segmentIn «path_type» (now (bytes .entry)) index)) ⌝ }
 {
     segment_out(DataplanePath::new(path_type).segment(bytes, index))
 }
@@ -75,7 +75,7 @@ pub extern "C" fn scion_segment(path_type: u8, bytes: &[u8], index: usize) -> Sc
 // The expiry of segment `index`.
 #[no_mangle]
 pub extern "C" fn scion_segment_expiry(path_type: u8, bytes: &[u8], index: usize) -> ScionExpiry
-    ensures { λ r. ⌜ r ≡ spec.expiryOut (expiry.segmentExpiryIn «path_type» (now (bytes .entry)) index) ⌝ }
+    ensures { λ r. ⌜ r ≡ spec.expiryOut (expiry.expiryFound (dataplane.standard «path_type» (now (bytes .entry))) (expiry.segmentExpiryIn «path_type» (now (bytes .entry)) index)) ⌝ }
 {
     expiry_out(path_expiry::segment_expiry_time(DataplanePath::new(path_type), bytes, index))
 }
@@ -83,7 +83,7 @@ pub extern "C" fn scion_segment_expiry(path_type: u8, bytes: &[u8], index: usize
 // The expiry of the path.
 #[no_mangle]
 pub extern "C" fn scion_expiry(path_type: u8, bytes: &[u8]) -> ScionExpiry
-    ensures { λ r. ⌜ r ≡ spec.expiryOut (expiry.expiryIn «path_type» (now (bytes .entry))) ⌝ }
+    ensures { λ r. ⌜ r ≡ spec.expiryOut (expiry.expiryFound (dataplane.standard «path_type» (now (bytes .entry))) (expiry.expiryIn «path_type» (now (bytes .entry)))) ⌝ }
 {
     expiry_out(path_expiry::expiry_time(DataplanePath::new(path_type), bytes))
 }
@@ -91,7 +91,7 @@ pub extern "C" fn scion_expiry(path_type: u8, bytes: &[u8]) -> ScionExpiry
 // The path's expiry less `at`, a time of 0 to 9,000,000,000,000 ms.
 #[no_mangle]
 pub extern "C" fn scion_time_left(path_type: u8, bytes: &[u8], at: u64) -> ScionTimeLeft
-    ensures { λ r. ⌜ r ≡ spec.timeLeftOut (expiry.timeLeftIn «path_type» (now (bytes .entry)) at) ⌝ }
+    ensures { λ r. ⌜ r ≡ spec.timeLeftOut (expiry.timeLeftFound (dataplane.standard «path_type» (now (bytes .entry))) (expiry.timeLeftIn «path_type» (now (bytes .entry)) at)) ⌝ }
 {
     time_left_out(path_expiry::time_left(DataplanePath::new(path_type), bytes, at))
 }
@@ -99,7 +99,7 @@ pub extern "C" fn scion_time_left(path_type: u8, bytes: &[u8], at: u64) -> Scion
 // The number of interfaces on the path.
 #[no_mangle]
 pub extern "C" fn scion_interfaces_count(path_type: u8, bytes: &[u8]) -> ScionInterfaceCount
-    ensures { λ r. ⌜ r ≡ spec.interfaceCountOut (interfaces.interfacesIn «path_type» (now (bytes .entry))) ⌝ }
+    ensures { λ r. ⌜ r ≡ spec.interfaceCountOut (interfaces.interfaceCount (dataplane.standard «path_type» (now (bytes .entry))) (interfaces.interfacesIn «path_type» (now (bytes .entry)))) ⌝ }
 {
     interface_count_out(path_interfaces::interfaces_count(DataplanePath::new(path_type), bytes))
 }
@@ -107,7 +107,7 @@ pub extern "C" fn scion_interfaces_count(path_type: u8, bytes: &[u8]) -> ScionIn
 // Interface `index` in the order of travel, and its hop field.
 #[no_mangle]
 pub extern "C" fn scion_interface(path_type: u8, bytes: &[u8], index: usize) -> ScionInterface
-    ensures { λ r. ⌜ r ≡ spec.interfaceOut (interfaces.interfaceIn «path_type» (now (bytes .entry)) index) ⌝ }
+    ensures { λ r. ⌜ r ≡ spec.interfaceOut (interfaces.interfaceFound (dataplane.standard «path_type» (now (bytes .entry))) (interfaces.interfaceIn «path_type» (now (bytes .entry)) index)) ⌝ }
 {
     interface_out(path_interfaces::interface(DataplanePath::new(path_type), bytes, index))
 }
@@ -120,8 +120,8 @@ pub extern "C" fn scion_set_ingress_router_alert(
     index: usize,
     on: bool,
 ) -> ScionPathAnswer
-    ensures { λ r. ⌜ r ≡ spec.pathAnswerOut (interfaces.alertAnswer «path_type» (now (bytes .entry)) index) ⌝ }
-    ensures { λ _. ⌜ now (bytes .exit) ≡ interfaces.alerted 1 on «path_type» (now (bytes .entry)) index ⌝ }
+    ensures { λ r. ⌜ r ≡ spec.pathAnswerOut (dataplane.writtenAnswer (interfaces.alerted 1 on «path_type» (now (bytes .entry)) index)) ⌝ }
+    ensures { λ _. ⌜ now (bytes .exit) ≡ dataplane.contents (interfaces.alerted 1 on «path_type» (now (bytes .entry)) index) (now (bytes .entry)) ⌝ }
 {
     path_answer_out(path_interfaces::set_cons_ingress_router_alert(
         DataplanePath::new(path_type),
@@ -139,8 +139,8 @@ pub extern "C" fn scion_set_egress_router_alert(
     index: usize,
     on: bool,
 ) -> ScionPathAnswer
-    ensures { λ r. ⌜ r ≡ spec.pathAnswerOut (interfaces.alertAnswer «path_type» (now (bytes .entry)) index) ⌝ }
-    ensures { λ _. ⌜ now (bytes .exit) ≡ interfaces.alerted 0 on «path_type» (now (bytes .entry)) index ⌝ }
+    ensures { λ r. ⌜ r ≡ spec.pathAnswerOut (dataplane.writtenAnswer (interfaces.alerted 0 on «path_type» (now (bytes .entry)) index)) ⌝ }
+    ensures { λ _. ⌜ now (bytes .exit) ≡ dataplane.contents (interfaces.alerted 0 on «path_type» (now (bytes .entry)) index) (now (bytes .entry)) ⌝ }
 {
     path_answer_out(path_interfaces::set_cons_egress_router_alert(
         DataplanePath::new(path_type),
@@ -153,7 +153,7 @@ pub extern "C" fn scion_set_egress_router_alert(
 // A single move.
 #[no_mangle]
 pub extern "C" fn scion_move(path_type: u8, bytes: &mut [u8]) -> ScionPathAnswer
-    ensures { λ r. ⌜ r ≡ spec.pathAnswerOut (moves.moveAnswer «path_type» (now (bytes .entry))) ⌝ }
+    ensures { λ r. ⌜ r ≡ spec.pathAnswerOut (dataplane.pathAnswer (andThen (moves.move «path_type» (now (bytes .entry))) (dataplane.standard «path_type»))) ⌝ }
     ensures { λ _. ⌜ now (bytes .exit) ≡ moves.moved «path_type» (now (bytes .entry)) ⌝ }
 {
     path_answer_out(single_move(path_type, bytes))
@@ -162,7 +162,7 @@ pub extern "C" fn scion_move(path_type: u8, bytes: &mut [u8]) -> ScionPathAnswer
 // A walk: moves until the last hop field or the limit.
 #[no_mangle]
 pub extern "C" fn scion_walk(path_type: u8, bytes: &mut [u8], limit: usize) -> ScionWalk
-    ensures { λ r. ⌜ r ≡ spec.walkOut (moves.walkAnswer «path_type» (now (bytes .entry)) limit) ⌝ }
+    ensures { λ r. ⌜ r ≡ spec.walkOut (moves.walkAnswer «path_type» (moves.walk «path_type» (now (bytes .entry)) limit)) ⌝ }
     ensures { λ _. ⌜ now (bytes .exit) ≡ moves.walked «path_type» (now (bytes .entry)) limit ⌝ }
 {
     walk_out(walk(path_type, bytes, limit))
@@ -171,8 +171,8 @@ pub extern "C" fn scion_walk(path_type: u8, bytes: &mut [u8], limit: usize) -> S
 // Copies the path to a destination of exactly its length. An empty path disregards its destination.
 #[no_mangle]
 pub extern "C" fn scion_copy_path(path_type: u8, bytes: &[u8], dst: &mut [u8]) -> ScionPathAnswer
-    ensures { λ r. ⌜ r ≡ spec.pathAnswerOut (copy.copyAnswer «path_type» (now (bytes .entry)) (length (now (dst .entry)))) ⌝ }
-    ensures { λ _. ⌜ now (dst .exit) ≡ copy.copied «path_type» (now (bytes .entry)) (now (dst .entry)) ⌝ }
+    ensures { λ r. ⌜ r ≡ spec.pathAnswerOut (dataplane.writtenAnswer (copy.copy «path_type» (now (bytes .entry)) (now (dst .entry)))) ⌝ }
+    ensures { λ _. ⌜ now (dst .exit) ≡ dataplane.contents (copy.copy «path_type» (now (bytes .entry)) (now (dst .entry))) (now (dst .entry)) ⌝ }
 {
     path_answer_out(copy_to_slice(DataplanePath::new(path_type), bytes, dst))
 }
@@ -180,8 +180,8 @@ pub extern "C" fn scion_copy_path(path_type: u8, bytes: &[u8], dst: &mut [u8]) -
 // Writes the reply's path to a destination of exactly the path's length. An empty path disregards its destination.
 #[no_mangle]
 pub extern "C" fn scion_reverse_path(path_type: u8, bytes: &[u8], dst: &mut [u8]) -> ScionPathAnswer
-    ensures { λ r. ⌜ r ≡ spec.pathAnswerOut (reversal.reverseAnswer «path_type» (now (bytes .entry)) (length (now (dst .entry)))) ⌝ }
-    ensures { λ _. ⌜ now (dst .exit) ≡ reversal.reversed «path_type» (now (bytes .entry)) (now (dst .entry)) ⌝ }
+    ensures { λ r. ⌜ r ≡ spec.pathAnswerOut (dataplane.writtenAnswer (reversal.reverse «path_type» (now (bytes .entry)) (now (dst .entry)))) ⌝ }
+    ensures { λ _. ⌜ now (dst .exit) ≡ dataplane.contents (reversal.reverse «path_type» (now (bytes .entry)) (now (dst .entry))) (now (dst .entry)) ⌝ }
 {
     path_answer_out(reverse_to_slice(path_type, bytes, dst))
 }

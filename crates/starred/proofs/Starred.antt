@@ -10,20 +10,18 @@ use Rattle.path_expiry.specs.Expiry as expiry
 use Rattle.path_interfaces.specs.Interfaces as interfaces
 use Rattle.moves.specs.Moves as moves
 use Rattle.move_rules.specs.Rules as rules
-use Rattle.common_header.specs.CommonHeader as common
+use Rattle.packet_common_header.specs.CommonHeader as common
 use Rattle.packet.specs.Raw as raw
 use Rattle.starred.specs.Table.{reading, splitting, expiring, interfaceOfTwoByTwo, moving, answers, wanted}
 
 pub starred : answers ≡ wanted
 unfolding answers wanted reading splitting expiring interfaceOfTwoByTwo moving bigEndian bytesOf numberAt room
     meta.nthField meta.metaOf meta.infoFieldsCount meta.hopFieldsCount meta.segmentOf meta.firstHopField meta.segmentLengthOf meta.pathLength
-    meta.interfacesCount meta.segmentOfLink meta.hopFieldOf meta.lengthsValid meta.hopValid meta.infoValid meta.firstRefusal meta.checked meta.settled meta.metaRead meta.readMeta
+    meta.interfacesCount meta.segmentOfLink meta.hopFieldOf meta.lengthsValid meta.hopValid meta.infoValid meta.checked meta.readMeta
     fields.infoFieldAt fields.hopFieldAt fields.expiryOffset fields.expiryTime
-    standard.zeroPath standard.pathRefused standard.complete standard.readPath
-    expiry.least expiry.hopExpiry expiry.segmentExpiry expiry.pathExpiry
-    dataplane.unread dataplane.standardRead dataplane.readDataplane dataplane.answerRefused dataplane.standardAnswer dataplane.standardOf
-    dataplane.carriedOut dataplane.onStandard expiry.expiryIn interfaces.interfaceFound interfaces.interfaceIn dataplane.answered
-    rules.ownerOf rules.spared moves.changeInside moves.positionOf moves.moveFrom moves.atPosition moves.applied moves.movedMeta moves.moveBytes
-    rules.peerings rules.peeringAllowed rules.stateOf rules.movableOf rules.onMovable moves.notLast moves.moveAnswer moves.moved
-    common.commonRefused common.readCommon raw.packetRefused raw.commonFound raw.readPacket
+    standard.readPath dataplane.readDataplane dataplane.standard
+    expiry.least expiry.hopExpiry expiry.segmentExpiry expiry.pathExpiry expiry.expiryIn interfaces.interfaceOf interfaces.interfaceIn
+    rules.ownerOf rules.spared moves.changeInside moves.positionOf moves.moveFrom moves.atPosition moves.applied moves.movedMeta moves.takesIn moves.moveBytes
+    rules.peerings rules.peeringAllowed rules.stateOf rules.movable moves.notLast moves.move moves.moved
+    common.readCommon raw.readPacket
 starred = refl

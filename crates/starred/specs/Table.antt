@@ -2,43 +2,44 @@
 use Prim.Native.Nat.{ℕ}
 use mathlib.Core.List.{List, [], _∷_, _++_}
 use lib.ListN.{replicate}
-use Rattle.path_error.specs.Errors.{decodedNumber, decodedValue, answerNumber}
+use Rattle.wire_encoding.specs.Result.{orElse, told}
+use Rattle.wire_encoding.specs.BigEndian.{bigEndian}
+use Rattle.path_error.specs.Errors.{decodedOf, decodedNumber, decodedValue, answerOf, answerNumber}
 use Rattle.path.specs.Dataplane.{readDataplane}
 use Rattle.path_expiry.specs.Expiry.{expiryIn}
 use Rattle.path_interfaces.specs.Interfaces.{interfaceIn}
-use Rattle.wire_encoding.specs.BigEndian.{bigEndian}
-use Rattle.moves.specs.Moves.{moveAnswer, moved}
+use Rattle.moves.specs.Moves.{move, moved}
 use Rattle.packet.specs.Raw.{readPacket}
 
 -- reading a standard path of these meta bytes, enough following: the answer's number, and the path's length in bytes
 unfoldable pub reading : List ℕ → List ℕ
 reading meta =
     let read = readDataplane 1 (meta ++ replicate 60 0) in
-    decodedNumber (read .answer) ∷ read .length ∷ []
+    decodedNumber (decodedOf read) ∷ told read (λ path. path .length) (λ error. 0) ∷ []
 
 -- splitting a packet of these bytes: the answer's number, and its value
 unfoldable pub splitting : List ℕ → List ℕ
 splitting bytes =
-    let packet = readPacket bytes in
-    decodedNumber (packet .answer) ∷ decodedValue (packet .answer) ∷ []
+    let answer = decodedOf (readPacket bytes) in
+    decodedNumber answer ∷ decodedValue answer ∷ []
 
 -- the expiry of a path of one hop field with these four timestamp bytes and this expiry byte
 unfoldable pub expiring : List ℕ → ℕ → List ℕ
 expiring time e =
     let expiry = expiryIn 1 ((0x00 ∷ 0x00 ∷ 0x10 ∷ 0x00 ∷ 0x01 ∷ 0x00 ∷ 0x00 ∷ 0x00 ∷ []) ++ time ++ (0x00 ∷ e ∷ []) ++ replicate 10 0) in
-    answerNumber (expiry .answer) ∷ expiry .ms ∷ []
+    answerNumber (answerOf expiry) ∷ orElse expiry 0 ∷ []
 
 -- interface i of a path of lengths 2, 2, 0: the answer's number, and the hop field that the interface belongs to
 unfoldable pub interfaceOfTwoByTwo : ℕ → List ℕ
 interfaceOfTwoByTwo i =
     let found = interfaceIn 1 ((0x00 ∷ 0x00 ∷ 0x20 ∷ 0x80 ∷ []) ++ replicate 64 0) i in
-    answerNumber (found .answer) ∷ found .«hop_field» ∷ []
+    answerNumber (answerOf found) ∷ told found (λ place. place .hop) (λ error. 0) ∷ []
 
 -- a single move of a path of two hop fields in construction direction, accumulator 1111, first code A0 0B: the answer's number, and the accumulator
 unfoldable pub moving : List ℕ
 moving =
     let path : List ℕ = (0x00 ∷ 0x00 ∷ 0x20 ∷ 0x00 ∷ 0x01 ∷ 0x00 ∷ 0x11 ∷ 0x11 ∷ []) ++ replicate 10 0 ++ (0xA0 ∷ 0x0B ∷ []) ++ replicate 16 0 in
-    answerNumber (moveAnswer 1 path .answer) ∷ bigEndian 2 (moved 1 path) 6 ∷ []
+    answerNumber (answerOf (move 1 path)) ∷ bigEndian 2 (moved 1 path) 6 ∷ []
 
 -- what is answered
 unfoldable pub answers : List (List ℕ)

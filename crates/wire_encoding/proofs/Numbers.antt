@@ -12,8 +12,9 @@ use lib.Dec.{lit<, leb}
 use lib.ListN.{length, getD, take, drop, length-append}
 use lib.Seq.{sets, sets-eq, getD-append-add, getD-append-seam, getD-take, getD-drop, length-take-le}
 use borrow.Author.Tests.{le-leb, lt-leb, leb-true, leb-false}
-use Rattle.wire_encoding.specs.Choice.{value, refused, orZero}
+use Rattle.wire_encoding.specs.Result.{Result, ok, refused, orElse}
 use Rattle.wire_encoding.specs.BigEndian.{bigEndian, bytesOf, room, numberAt, part}
+use Rattle.wire_encoding.proofs.Results.{held, unmet}
 use Rattle.wire_encoding.proofs.Parts.{Bytes, part-last, sets-same}
 
 module _ (bytes : List ℕ) (b : Bytes bytes) (at : ℕ) where
@@ -47,17 +48,26 @@ room-left len at n inside = go (leb n (len - at)) refl
 
 -- the two answers of a reader at any width
 module _ (width : ℕ) (bytes : List ℕ) (at : ℕ) where
-  pub found : at + width ≤ length bytes → {n : ℕ} → n ≡ bigEndian width bytes at → value n ≡ numberAt width bytes at
+  pub found : at + width ≤ length bytes → {n : ℕ} → n ≡ bigEndian width bytes at → ok n ≡ numberAt width bytes at
   unfolding numberAt room
-  found h e = simp (le-leb _ _ h) (ap value e)
+  found h e = simp (le-leb _ _ h) (ap ok e)
 
   pub truncated : length bytes < at + width → refused 1 ≡ numberAt width bytes at
   unfolding numberAt room
   truncated h = simp (lt-leb _ _ h)
 
+  -- and what each says of the bytes
+  pub was-read : {n : ℕ} → ok n ≡ numberAt width bytes at → (room bytes at width ≡ true) × (n ≡ bigEndian width bytes at)
+  unfolding numberAt
+  was-read e = let r = held (room bytes at width) 1 _ (sym e) in (r .0, cc)
+
+  pub was-truncated : refused 1 ≡ numberAt width bytes at → room bytes at width ≡ false
+  unfolding numberAt
+  was-truncated e = unmet (room bytes at width) 1 (bigEndian width bytes at) (sym e)
+
   -- where the bytes are there, what was read is the number
-  pub or-zero-is : at + width ≤ length bytes → orZero (numberAt width bytes at) ≡ bigEndian width bytes at
-  or-zero-is h = sym (ap orZero (found h refl))
+  pub or-zero-is : at + width ≤ length bytes → orElse (numberAt width bytes at) 0 ≡ bigEndian width bytes at
+  or-zero-is h = sym (ap (λ (r : Result ℕ ℕ). orElse r 0) (found h refl))
 
 pub length-bytesOf : (width n : ℕ) → length (bytesOf width n) ≡ width
 unfolding bytesOf

@@ -10,8 +10,8 @@ use lib.ListN.{length, getD, set, take, drop, length-set, drop-of-length-le}
 use lib.Seq.{sets, sets-eq, drop-cons, drop-drop, length-sets}
 use borrow.Author.Tests.{le-leb, lt-leb}
 use mathlib.Core.Bool.{Bool, true, false}
-use Rattle.wire_encoding.specs.Choice.{pick, orZero}
-use Rattle.wire_encoding.specs.BigEndian.{bytesOf, numberAt, part, room, placing, placed}
+use Rattle.wire_encoding.specs.Result.{ok, refused, require, orElse}
+use Rattle.wire_encoding.specs.BigEndian.{bytesOf, numberAt, part, room, written, placed}
 use Rattle.wire_encoding.proofs.Parts.{Bytes, length-part, sets-append, set-sets, sets-whole}
 use Rattle.wire_encoding.proofs.Numbers.{or-zero-is, length-bytesOf, bytes-read}
 
@@ -60,27 +60,26 @@ run-step src goal dst₀ dst at i h r = record {
 pub run-done : (src goal dst₀ dst : List ℕ) (at i : ℕ) → length src ≤ i → RunLeft src goal dst₀ dst at i → dst ≡ goal
 run-done src goal dst₀ dst at i h r = sym (ap (sets dst (at + i)) (drop-of-length-le src {i = i} h)) ∙ r .writes
 
--- the two answers of a writer of a run of n bytes, each with what the lent bytes then hold
+-- the two answers of a writer of a run of n bytes
 module _ (dst : List ℕ) (at : ℕ) (run : List ℕ) (n : ℕ) (size : length run ≡ n) where
-  pub done : at + n ≤ length dst → {now : List ℕ} → now ≡ sets dst at run → (0 ≡ placing dst at run) × (now ≡ placed dst at run)
-  unfolding placing placed room
-  done h e = simp (size, le-leb (at + n) (length dst) h) (refl, e)
+  pub done : at + n ≤ length dst → written dst at run ≡ ok (sets dst at run)
+  unfolding written room
+  done h = simp (size, le-leb (at + n) (length dst) h)
 
-  pub refused : length dst < at + n → (9 ≡ placing dst at run) × (dst ≡ placed dst at run)
-  unfolding placing placed room
-  refused h = simp (size, lt-leb (at + n) (length dst) h) (refl, refl)
+  pub no-room : length dst < at + n → written dst at run ≡ refused 9
+  unfolding written room
+  no-room h = simp (size, lt-leb (at + n) (length dst) h)
 
-  -- where there is room the bytes are written, and the answer says so
+  -- where there is room the bytes are written
   pub placed-is : at + n ≤ length dst → placed dst at run ≡ sets dst at run
-  unfolding placed room
-  placed-is h = simp (size, le-leb (at + n) (length dst) h)
+  placed-is h = rw (done h)
 
 -- a write keeps the length
 pub length-placed : (dst : List ℕ) (at : ℕ) (run : List ℕ) → length (placed dst at run) ≡ length dst
-unfolding placed
+unfolding written
 length-placed dst at run = go (room dst at (length run))
   where
-    go : (t : Bool) → length (pick t (sets dst at run) dst) ≡ length dst
+    go : (t : Bool) → length (orElse (require {E = ℕ} t 9 (ok (sets dst at run))) dst) ≡ length dst
     go true = length-sets dst at run
     go false = refl
 
@@ -104,7 +103,7 @@ lent-written run dst to k size room e =
 
 -- a number read and written elsewhere is its bytes copied, for the bytes of a number that was read are the bytes that were read
 pub number-copied : (width : ℕ) (src dst : List ℕ) (from to : ℕ) → Bytes src → from + width ≤ length src → to + width ≤ length dst
-    → {n : ℕ} → n ≡ orZero (numberAt width src from) → {now : List ℕ} → now ≡ placed dst to (bytesOf width n)
+    → {n : ℕ} → n ≡ orElse (numberAt width src from) 0 → {now : List ℕ} → now ≡ placed dst to (bytesOf width n)
     → now ≡ sets dst to (part from width src)
 number-copied width src dst from to b there room {n} read e =
     e

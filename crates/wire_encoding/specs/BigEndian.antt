@@ -5,7 +5,7 @@ use mathlib.Core.List.{List, [], _∷_, _++_}
 use lib.ListN.{length, getD, take, drop}
 use lib.Seq.{sets}
 use lib.Dec.{leb}
-use Rattle.wire_encoding.specs.Choice.{pick, Answer, value, refused}
+use Rattle.wire_encoding.specs.Result.{Result, ok, require, _>>_, orElse}
 
 -- the number that the `width` bytes at `at` spell
 unfoldable pub bigEndian : ℕ → List ℕ → ℕ → ℕ
@@ -22,16 +22,20 @@ unfoldable pub room : List ℕ → ℕ → ℕ → Bool
 room bytes at n = leb (at + n) (length bytes)
 
 -- reading: the number, or 1 for too few bytes
-unfoldable pub numberAt : ℕ → List ℕ → ℕ → Answer
-numberAt width bytes at = pick (room bytes at width) (value (bigEndian width bytes at)) (refused 1)
+unfoldable pub numberAt : ℕ → List ℕ → ℕ → Result ℕ ℕ
+numberAt width bytes at = do
+  require (room bytes at width) 1
+  ok (bigEndian width bytes at)
 
--- writing a run of bytes: 0, or 9 where there is no room for all of them
-unfoldable pub placing : List ℕ → ℕ → List ℕ → ℕ
-placing dst at run = pick (room dst at (length run)) 0 9
+-- writing a run of bytes: what the lent bytes then hold, or 9 where there is no room for all of them
+unfoldable pub written : List ℕ → ℕ → List ℕ → Result ℕ (List ℕ)
+written dst at run = do
+  require (room dst at (length run)) 9
+  ok (sets dst at run)
 
--- what the lent bytes then hold: the run at `at`, or what they held
-unfoldable pub placed : List ℕ → ℕ → List ℕ → List ℕ
-placed dst at run = pick (room dst at (length run)) (sets dst at run) dst
+-- a refusal changes nothing
+abbrev pub placed : List ℕ → ℕ → List ℕ → List ℕ
+placed dst at run = orElse (written dst at run) dst
 
 -- the n bytes at `at`
 abbrev pub part : ℕ → ℕ → List ℕ → List ℕ

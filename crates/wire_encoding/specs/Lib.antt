@@ -1,3 +1,3 @@
-pub mod Choice
+pub mod Result
 pub mod BigEndian
 pub mod Answers

@@ -5,7 +5,7 @@ ghost use lib.ListN.{length};
 ghost use lib.Dec.{leb};
 ghost use Rattle.wire_encoding.specs.BigEndian.{bigEndian, numberAt};
 ghost use Rattle.wire_encoding.specs.Answers.{answer16, answer32, answer64};
-ghost use Rattle.wire_encoding.specs.Choice.{orZero};
+ghost use Rattle.wire_encoding.specs.Result.{orElse};
 
 // A 16-bit number, or too few bytes for it.
 pub enum Read16 {
@@ -89,7 +89,7 @@ pub fn get_u64(bytes: &[u8], at: usize) -> Read64
 
 // The 16-bit number at `at`, or 0 where there are too few bytes.
 pub fn u16_or_zero(bytes: &[u8], at: usize) -> u16
-    ensures { λ r. ⌜ r ≡ orZero (numberAt 2 (now (bytes .entry)) at) ⌝ }
+    ensures { λ r. ⌜ r ≡ orElse (numberAt 2 (now (bytes .entry)) at) 0 ⌝ }
 {
     match get_u16(bytes, at) {
         Read16::Value(number) => number,
@@ -99,7 +99,7 @@ pub fn u16_or_zero(bytes: &[u8], at: usize) -> u16
 
 // The 32-bit number at `at`, or 0 where there are too few bytes.
 pub fn u32_or_zero(bytes: &[u8], at: usize) -> u32
-    ensures { λ r. ⌜ r ≡ orZero (numberAt 4 (now (bytes .entry)) at) ⌝ }
+    ensures { λ r. ⌜ r ≡ orElse (numberAt 4 (now (bytes .entry)) at) 0 ⌝ }
 {
     match get_u32(bytes, at) {
         Read32::Value(number) => number,
@@ -109,7 +109,7 @@ pub fn u32_or_zero(bytes: &[u8], at: usize) -> u32
 
 // The 64-bit number at `at`, or 0 where there are too few bytes.
 pub fn u64_or_zero(bytes: &[u8], at: usize) -> u64
-    ensures { λ r. ⌜ r ≡ orZero (numberAt 8 (now (bytes .entry)) at) ⌝ }
+    ensures { λ r. ⌜ r ≡ orElse (numberAt 8 (now (bytes .entry)) at) 0 ⌝ }
 {
     match get_u64(bytes, at) {
         Read64::Value(number) => number,

@@ -4,8 +4,9 @@ ghost use mathlib.Core.Path.{_≡_};
 ghost use Prim.Native.Nat.{_+_, _≤_};
 ghost use lib.ListN.{length};
 ghost use lib.Seq.{sets};
-ghost use Rattle.wire_encoding.specs.BigEndian.{bytesOf, placed, placing};
-ghost use Rattle.wire_encoding.specs.Answers.{numberOfPut};
+ghost use Rattle.wire_encoding.specs.Result.{orElse};
+ghost use Rattle.wire_encoding.specs.BigEndian.{bytesOf, written};
+ghost use Rattle.wire_encoding.specs.Answers.{putAnswer};
 
 // Whether the bytes were written: all of them, or none for want of room.
 pub enum Put {
@@ -29,8 +30,8 @@ fn write_big_endian(dst: &mut [u8], at: usize, width: usize, number: u64)
 
 // Writes a 16-bit number at `at`.
 pub fn put_u16(dst: &mut [u8], at: usize, number: u16) -> Put
-    ensures { λ r. ⌜ numberOfPut r ≡ placing (now (dst .entry)) at (bytesOf 2 number) ⌝ }
-    ensures { λ _. ⌜ now (dst .exit) ≡ placed (now (dst .entry)) at (bytesOf 2 number) ⌝ }
+    ensures { λ r. ⌜ r ≡ putAnswer (written (now (dst .entry)) at (bytesOf 2 number)) ⌝ }
+    ensures { λ _. ⌜ now (dst .exit) ≡ orElse (written (now (dst .entry)) at (bytesOf 2 number)) (now (dst .entry)) ⌝ }
 {
     if has_room(dst.len(), at, 2) {
         write_big_endian(dst, at, 2, number as u64);
@@ -41,8 +42,8 @@ pub fn put_u16(dst: &mut [u8], at: usize, number: u16) -> Put
 
 // Writes a 32-bit number at `at`.
 pub fn put_u32(dst: &mut [u8], at: usize, number: u32) -> Put
-    ensures { λ r. ⌜ numberOfPut r ≡ placing (now (dst .entry)) at (bytesOf 4 number) ⌝ }
-    ensures { λ _. ⌜ now (dst .exit) ≡ placed (now (dst .entry)) at (bytesOf 4 number) ⌝ }
+    ensures { λ r. ⌜ r ≡ putAnswer (written (now (dst .entry)) at (bytesOf 4 number)) ⌝ }
+    ensures { λ _. ⌜ now (dst .exit) ≡ orElse (written (now (dst .entry)) at (bytesOf 4 number)) (now (dst .entry)) ⌝ }
 {
     if has_room(dst.len(), at, 4) {
         write_big_endian(dst, at, 4, number as u64);
@@ -53,8 +54,8 @@ pub fn put_u32(dst: &mut [u8], at: usize, number: u32) -> Put
 
 // Writes a 64-bit number at `at`.
 pub fn put_u64(dst: &mut [u8], at: usize, number: u64) -> Put
-    ensures { λ r. ⌜ numberOfPut r ≡ placing (now (dst .entry)) at (bytesOf 8 number) ⌝ }
-    ensures { λ _. ⌜ now (dst .exit) ≡ placed (now (dst .entry)) at (bytesOf 8 number) ⌝ }
+    ensures { λ r. ⌜ r ≡ putAnswer (written (now (dst .entry)) at (bytesOf 8 number)) ⌝ }
+    ensures { λ _. ⌜ now (dst .exit) ≡ orElse (written (now (dst .entry)) at (bytesOf 8 number)) (now (dst .entry)) ⌝ }
 {
     if has_room(dst.len(), at, 8) {
         write_big_endian(dst, at, 8, number);
@@ -77,8 +78,8 @@ fn write_bytes(src: &[u8], dst: &mut [u8], at: usize)
 
 // Writes the bytes of `src` at `at`.
 pub fn put_slice(dst: &mut [u8], at: usize, src: &[u8]) -> Put
-    ensures { λ r. ⌜ numberOfPut r ≡ placing (now (dst .entry)) at (now (src .entry)) ⌝ }
-    ensures { λ _. ⌜ now (dst .exit) ≡ placed (now (dst .entry)) at (now (src .entry)) ⌝ }
+    ensures { λ r. ⌜ r ≡ putAnswer (written (now (dst .entry)) at (now (src .entry))) ⌝ }
+    ensures { λ _. ⌜ now (dst .exit) ≡ orElse (written (now (dst .entry)) at (now (src .entry))) (now (dst .entry)) ⌝ }
 {
     if has_room(dst.len(), at, src.len()) {
         write_bytes(src, dst, at);

@@ -6,35 +6,33 @@ use Prim.Native.Nat.{ℕ, _+_, _^_, _≤_, _<_}
 use native.Mathlib.Nat.{mod-eq-of-lt}
 use native.Mathlib.Omega.{arith}
 use lib.ListN.{length, take, length-append}
-use borrow.Author.Tests.{le-ltb}
 use Rattle.wire_encoding.specs.BigEndian.{bigEndian, bytesOf}
 use Rattle.wire_encoding.proofs.Parts.{Bytes, part-join}
 use Rattle.wire_encoding.proofs.Numbers.{length-bytesOf, bytes-read, read-bytesOf}
-use Rattle.path_error.specs.declared.Decoded.the-variants.{Accepted}
-use Rattle.common_header.specs.CommonHeader.{hostLength}
-use Rattle.address_header.specs.AddressHeader.{kindOf, hostAt, lengthOfKinds, addressLength, addressAt, readAddress}
-use Rattle.address_header_encoding.specs.Encoding.{hostBytes, addressBytes}
-use Rattle.address_header.specs.declared.AddressHeader.{AddressHeader}
-use Rattle.address_header.specs.declared.AddressHeaderRead.{AddressHeaderRead}
-use Rattle.address_header_encoding.proofs.EncodingLaws.{Sixteen, length-hostBytes, length-addressBytes, four-runs}
+use Rattle.wire_encoding.specs.Result.{ok}
+use Rattle.packet_common_header.specs.CommonHeader.{hostLength}
+use Rattle.packet_address_header.specs.AddressHeader.{
+  kindOf,
+  hostAt,
+  lengthOfKinds,
+  addressLength,
+  addressAt,
+  readAddress,
+  hostBytes,
+  addressBytes,
+}
+use Rattle.packet_address_header.specs.declared.AddressHeader.{AddressHeader}
+use Rattle.packet_address_header.proofs.ReadingLaws.{kind-read, address-read}
+use Rattle.packet_address_header.proofs.WritingLaws.{Sixteen, length-hostBytes, length-addressBytes, four-runs}
 use Rattle.written_read.specs.WrittenRead.{hostRead, addressRead, PaddingZero}
-use Rattle.written_read.proofs.Hosts.{host-own, kind-read, host-written}
+use Rattle.written_read.proofs.Hosts.{host-own, host-written}
 
 -- READ AS IT WAS WRITTEN
 
--- what an accepted header is handed back as
-abbrev pub addressAccepted : AddressHeader → ℕ → AddressHeaderRead
-addressAccepted a n = record { answer = Accepted; header = a; length = n }
-
-address-accepted : (bytes : List ℕ) (destination source : ℕ) → lengthOfKinds destination source ≤ length bytes
-    → readAddress bytes destination source ≡ addressAccepted (addressAt bytes destination source) (lengthOfKinds destination source)
-unfolding readAddress lengthOfKinds
-address-accepted bytes destination source long =
-    rw (
-      le-ltb (length bytes) 16 (omega arith),
-      le-ltb (length bytes) (16 + hostLength destination) (omega arith),
-      le-ltb (length bytes) (16 + hostLength destination + hostLength source) long,
-    )
+-- its hosts are of the kinds that they were written by
+pub address-read-long : (a : AddressHeader) → addressLength (addressRead a) ≡ addressLength a
+unfolding addressLength addressRead hostRead
+address-read-long a = ap₂ lengthOfKinds (kind-read (kindOf (a .destination .host)) (hostBytes (a .destination)) 0) (kind-read (kindOf (a .source .host)) (hostBytes (a .source)) 0)
 
 module _ (a : AddressHeader) (after : List ℕ) (s : Sixteen a) where
   -- the four runs that are written, and the kinds of the hosts
@@ -92,20 +90,16 @@ module _ (a : AddressHeader) (after : List ℕ) (s : Sixteen a) where
         ∙ read-bytesOf 8 (a .«source_ia» .0) to (dst ++ (src ++ after))
         ∙ mod-eq-of-lt source-fits
 
-    pub address-read : readAddress (addressBytes a ++ after) dk sk ≡ addressAccepted (addressRead a) (addressLength a)
+    pub address-back : readAddress (addressBytes a ++ after) dk sk ≡ ok (addressRead a)
     unfolding addressRead addressLength addressAt
-    address-read =
+    address-back =
         let own : length (addressBytes a) ≡ addressLength a = length-addressBytes a s in
-        address-accepted (addressBytes a ++ after) dk sk (simp length-append (omega arith))
+        address-read (addressBytes a ++ after) dk sk (simp length-append (omega arith))
         ∙ rw (destination-network, source-network, destination-read, source-read)
 
 -- WRITTEN AS IT WAS READ
 
 module _ (bytes : List ℕ) (destination source : ℕ) where
-  pub address-length-read : addressLength (addressAt bytes destination source) ≡ lengthOfKinds destination source
-  unfolding addressLength addressAt
-  address-length-read = ap₂ lengthOfKinds (kind-read destination bytes 16) (kind-read source bytes (16 + hostLength destination))
-
   pub address-written : Bytes bytes → lengthOfKinds destination source ≤ length bytes → PaddingZero destination bytes 16
       → PaddingZero source bytes (16 + hostLength destination) → addressBytes (addressAt bytes destination source) ≡ take (lengthOfKinds destination source) bytes
   unfolding addressAt lengthOfKinds

@@ -6,16 +6,14 @@ use Prim.Native.Nat.{ℕ, _+_, _*_, _/_, _%_, _^_, _≤_, _<_}
 use native.Mathlib.Nat.{mod-eq-of-lt}
 use native.Mathlib.Omega.{arith}
 use lib.ListN.{length, getD, take}
-use borrow.Author.Tests.{le-ltb, eq-eqb, ne-eqb}
+use borrow.Author.Tests.{le-leb, eq-eqb, ne-eqb}
 use Rattle.wire_encoding.specs.BigEndian.{bigEndian, bytesOf}
 use Rattle.wire_encoding.proofs.Parts.{Bytes, bytesFrom, part-bytes}
 use Rattle.wire_encoding.proofs.Numbers.{below, bytes-read, read-bytesOf}
-use Rattle.path_error.specs.declared.Decoded.the-variants.{Accepted}
-use Rattle.common_header.specs.CommonHeader.{commonAt, readCommon, versionOf, factorOf}
-use Rattle.common_header_encoding.specs.Encoding.{commonBytes}
-use Rattle.common_header.specs.declared.CommonHeader.{CommonHeader}
-use Rattle.common_header.specs.declared.CommonHeaderRead.{CommonHeaderRead}
-use Rattle.common_header_encoding.proofs.EncodingLaws.{Widths, first-fits}
+use Rattle.wire_encoding.specs.Result.{ok}
+use Rattle.packet_common_header.specs.CommonHeader.{commonAt, readCommon, versionOf, factorOf, commonBytes}
+use Rattle.packet_common_header.specs.declared.CommonHeader.{CommonHeader}
+use Rattle.packet_common_header.proofs.CommonLaws.{Widths, first-fits}
 
 -- READ AS IT WAS WRITTEN
 
@@ -26,14 +24,10 @@ pub record Fields (c : CommonHeader) : Type 0 where
   pub payload : c .«payload_length» < 2 ^ 16
   pub reserved : c .reserved < 2 ^ 16
 
--- what an accepted header is handed back as
-abbrev pub commonAccepted : CommonHeader → CommonHeaderRead
-commonAccepted c = record { answer = Accepted; header = c }
-
-common-accepted : (bytes : List ℕ) → versionOf bytes ≡ 0 → 12 ≤ length bytes → 9 ≤ factorOf bytes → readCommon bytes ≡ commonAccepted (commonAt bytes)
+common-accepted : (bytes : List ℕ) → versionOf bytes ≡ 0 → 12 ≤ length bytes → 9 ≤ factorOf bytes → readCommon bytes ≡ ok (commonAt bytes)
 unfolding readCommon
 common-accepted bytes version long factor =
-    rw (ne-eqb (length bytes) 0 (λ e. omega arith), eq-eqb (versionOf bytes) 0 version, le-ltb (length bytes) 12 long, le-ltb (factorOf bytes) 9 factor)
+    rw (ne-eqb (length bytes) 0 (λ e. omega arith), eq-eqb (versionOf bytes) 0 version, le-leb 12 (length bytes) long, le-leb 9 (factorOf bytes) factor)
 
 module _ (c : CommonHeader) (after : List ℕ) (f : Fields c) where
   -- the number of the first four bytes
@@ -75,10 +69,10 @@ module _ (c : CommonHeader) (after : List ℕ) (f : Fields c) where
   unfolding commonBytes bytesOf
   version-read zero = omega (arith, f .widths .flow, f .class)
 
-  pub common-read : c .version ≡ 0 → 9 ≤ c .«header_length_factor» → readCommon (commonBytes c ++ after) ≡ commonAccepted c
+  pub common-read : c .version ≡ 0 → 9 ≤ c .«header_length_factor» → readCommon (commonBytes c ++ after) ≡ ok c
   unfolding commonBytes bytesOf
   common-read zero long =
-      common-accepted (commonBytes c ++ after) (version-read zero) (omega arith) long ∙ ap commonAccepted fields-read
+      common-accepted (commonBytes c ++ after) (version-read zero) (omega arith) long ∙ ap (λ (x : CommonHeader). ok x) fields-read
 
 -- WRITTEN AS IT WAS READ
 

@@ -2,31 +2,29 @@
 -- Assumes nothing.
 use Prim.Native.Nat.{ℕ, zero, suc, _<_}
 use mathlib.Core.Path.{_≡_, refl}
-use mathlib.Core.Bool.{Bool, true, false}
+use mathlib.Core.Bool.{Bool, true, _&&_, and-eq-true-iff}
 use mathlib.Core.List.{List, [], _∷_, _++_}
 use native.Mathlib.Omega.{arith}
 use lib.ListN.{getD, set, replicate, take, drop}
-use lib.Dec.{ltb, lit<, lit≤}
+use lib.Dec.{ltb, lit<}
 use borrow.Author.Tests.{ltb-true}
-use Rattle.wire_encoding.specs.Choice.{pick}
+use Rattle.wire_encoding.specs.Result.{ok, orElse}
 use Rattle.wire_encoding.specs.BigEndian.{bigEndian, bytesOf, numberAt, room, part}
 use Rattle.address.specs.declared.host.HostAddr.the-variants.{V4, Svc}
 use Rattle.path_error.specs.Errors.{decodedNumber}
-use Rattle.path_error.specs.declared.Decoded.the-variants as decoded
 use Rattle.path_meta_header.specs.MetaHeader as meta
 use Rattle.path.specs.Standard as standard
 use Rattle.path.specs.Dataplane as dataplane
-use Rattle.common_header.specs.CommonHeader as common
-use Rattle.address_header.specs.AddressHeader as address
-use Rattle.common_header_encoding.specs.Encoding as common-encoding
-use Rattle.address_header_encoding.specs.Encoding as address-encoding
-use Rattle.address_header.specs.declared.MaybeEncoded.the-variants.{Decoded, Encoded}
+use Rattle.packet_common_header.specs.CommonHeader as common
+use Rattle.packet_address_header.specs.AddressHeader as address
+use Rattle.packet_address_header.specs.declared.MaybeEncoded.the-variants.{Decoded, Encoded}
 use Rattle.packet.specs.Raw as raw
-use Rattle.packet.specs.Raw.{readPacket}
+use Rattle.packet.specs.Raw.{Packet, readPacket, payloadPart, packetAnswer}
+use Rattle.path_meta_header.specs.declared.PathMetaHeader.{PathMetaHeader}
 use Rattle.headers.specs.Headers as headers
 use Rattle.headers.specs.declared.ScionHeaders.{ScionHeaders}
 use Rattle.written_read.specs.WrittenRead as round
-use Rattle.written_read.specs.WrittenRead.{Typed, Fills, Unpadded, WrittenAgain}
+use Rattle.written_read.specs.WrittenRead.{Typed, Fills, Unpadded, headersOf}
 use Rattle.written_read.proofs.ReadsBack.{reads-back}
 use Rattle.written_read.proofs.WritesAgain.{writes-again}
 
@@ -92,8 +90,21 @@ servicePath = part 40 4 servicePacket
 
 answersOf : List ℕ → List ℕ
 answersOf bytes =
-    let p = readPacket bytes in
+    let p = packetAnswer (readPacket bytes) in
     decodedNumber (p .answer) ∷ p .«path_part» .start ∷ p .«path_part» .len ∷ p .«payload_part» .start ∷ p .«payload_part» .len ∷ []
+
+-- the packet that is read of bytes that are accepted; the paths as they are read
+none : Packet
+none = record { common = common.zeroCommon; address = address.zeroAddress; path = meta.metaOf 0; path-bytes = []; payload = [] }
+
+packetIn : List ℕ → Packet
+packetIn bytes = orElse (readPacket bytes) none
+
+abbrev standardRead : PathMetaHeader
+standardRead = orElse (meta.readMeta standardPath) (meta.metaOf 0)
+
+abbrev serviceRead : PathMetaHeader
+serviceRead = meta.metaOf 0
 
 -- all that is computed: what is read, what is written again, and the premises of the theorems
 record Computed : Type 0 where
@@ -101,30 +112,28 @@ record Computed : Type 0 where
   read-standard : answersOf standardPacket ≡ 0 ∷ 36 ∷ 36 ∷ 72 ∷ 4 ∷ []
   read-service : answersOf servicePacket ≡ 0 ∷ 40 ∷ 4 ∷ 44 ∷ 0 ∷ []
   read-short : answersOf shortPacket ≡ 0 ∷ 36 ∷ 0 ∷ 36 ∷ 0 ∷ []
-  again-small : headers.headerBytes (round.headersOf (readPacket small)) [] ≡ small
-  again-service : headers.headerBytes (round.headersOf (readPacket servicePacket)) servicePath ≡ paddedPacket
-  standard-written : headers.headerBytes standardHeaders standardPath ++ (1 ∷ 2 ∷ 3 ∷ 4 ∷ 5 ∷ []) ≡ standardPacket
-  service-written : headers.headerBytes serviceHeaders servicePath ≡ paddedPacket
-  standard-fills : Fills standardHeaders standardPath
-  service-fills : Fills serviceHeaders servicePath
-  padded-accepted : readPacket paddedPacket .answer ≡ decoded.Accepted
-  padded-zero : Unpadded paddedPacket
-  short-accepted : readPacket shortPacket .answer ≡ decoded.Accepted
-  short-zero : Unpadded shortPacket
+  again-small : headers.headerBytes (headersOf (packetIn small)) [] ≡ small
+  again-service : headers.headerBytes (headersOf (packetIn servicePacket)) servicePath ≡ paddedPacket
+  standard-written : headers.writeHeaders standardHeaders standardPath 72 ≡ ok (take 72 standardPacket)
+  service-written : headers.writeHeaders serviceHeaders servicePath 44 ≡ ok paddedPacket
+  standard-fills : Fills standardHeaders standardPath standardRead
+  service-fills : Fills serviceHeaders servicePath serviceRead
+  padded-accepted : readPacket paddedPacket ≡ ok (packetIn paddedPacket)
+  padded-zero : Unpadded paddedPacket (packetIn paddedPacket)
+  short-accepted : readPacket shortPacket ≡ ok (packetIn shortPacket)
+  short-zero : Unpadded shortPacket (packetIn shortPacket)
 
 computed : Computed
 unfolding bigEndian bytesOf numberAt room
     meta.nthField meta.metaOf meta.infoFieldsCount meta.hopFieldsCount meta.segmentOf meta.pathLength
-    meta.lengthsValid meta.hopValid meta.infoValid meta.firstRefusal meta.checked meta.settled meta.metaRead meta.readMeta
-    standard.complete standard.readPath
-    dataplane.unread dataplane.standardRead dataplane.readDataplane
+    meta.lengthsValid meta.hopValid meta.infoValid meta.checked meta.readMeta standard.readPath dataplane.readDataplane
     common.commonAt common.readCommon common.headerLength common.hostLength
     address.kindOf address.hostOfKind address.padded address.hostAt address.lengthOfKinds address.addressLength address.addressAt address.readAddress
-    common-encoding.fieldsFit common-encoding.commonFits common-encoding.commonBytes address-encoding.serviceBytes address-encoding.rawOf address-encoding.hostOnWire address-encoding.onWire
-    address-encoding.wireHostBytes address-encoding.wireBytes address-encoding.addressBytes
-    raw.headerEnd raw.afterPath raw.pathFound raw.afterAddress raw.addressFound raw.afterCommon raw.commonFound raw.readPacket
-    headers.addedLength headers.addedBytes headers.headersLength headers.commonOf headers.encoding headers.headerBytes
-    round.headersOf answersOf small standardPacket servicePacket paddedPacket shortPacket standardHeaders standardPath serviceHeaders servicePath
+    common.fieldsFit common.commonFits common.commonBytes address.serviceBytes address.rawOf address.hostOnWire address.onWire
+    address.wireHostBytes address.wireBytes address.addressBytes
+    raw.readPacket raw.pathPart raw.payloadPart raw.packetAnswer
+    headers.addedLength headers.addedBytes headers.headersLength headers.commonOf headers.headerBytes headers.writeHeaders
+    round.headersOf answersOf packetIn small standardPacket servicePacket paddedPacket shortPacket standardHeaders standardPath serviceHeaders servicePath
 computed = record {
   read-small = refl;
   read-standard = refl;
@@ -134,8 +143,8 @@ computed = record {
   again-service = refl;
   standard-written = refl;
   service-written = refl;
-  standard-fills = record { accepted = refl; version = refl; full = refl; path-accepted = refl; path-whole = refl };
-  service-fills = record { accepted = refl; version = refl; full = refl; path-accepted = refl; path-whole = refl };
+  standard-fills = record { version = refl; full = refl; path-read = refl };
+  service-fills = record { version = refl; full = refl; path-read = refl };
   padded-accepted = refl;
   padded-zero = record { destination = record { padding = λ e. refl }; source = record { padding = λ e. absurd (omega arith) } };
   short-accepted = refl;
@@ -147,14 +156,10 @@ computed = record {
 -- a list whose numbers all pass the test is one of bytes
 allBytes : List ℕ → Bool
 allBytes [] = true
-allBytes (x ∷ l) = pick (ltb x 256) (allBytes l) false
+allBytes (x ∷ l) = ltb x 256 && allBytes l
 
-first-rest : (x : ℕ) (l : List ℕ) → pick (ltb x 256) (allBytes l) false ≡ true → (x < 256) × (allBytes l ≡ true)
-first-rest x l e = go (ltb x 256) refl e
-  where
-    go : (t : Bool) → ltb x 256 ≡ t → pick t (allBytes l) false ≡ true → (x < 256) × (allBytes l ≡ true)
-    go false t e = let z : _≡_ {A = ℕ} 0 1 = cc in absurd (omega arith)
-    go true t e = (ltb-true x 256 t, e)
+first-rest : (x : ℕ) (l : List ℕ) → ltb x 256 && allBytes l ≡ true → (x < 256) × (allBytes l ≡ true)
+first-rest x l e = let both = and-eq-true-iff (ltb x 256) (allBytes l) .0 e in (ltb-true x 256 (both .0), both .1)
 
 of-bytes : (l : List ℕ) → allBytes l ≡ true → (i : ℕ) → getD l i 0 < 256
 unfolding allBytes
@@ -189,19 +194,26 @@ service-typed = record {
 }
 
 -- a payload of 4 bytes and a byte after it; no payload
-standard-back : readPacket standardPacket ≡ round.packetOf standardHeaders standardPath
+standard-back : readPacket (take 72 standardPacket ++ ((1 ∷ 2 ∷ 3 ∷ 4 ∷ []) ++ (5 ∷ []))) ≡ ok (round.packetOf standardHeaders standardPath standardRead (1 ∷ 2 ∷ 3 ∷ 4 ∷ []))
 unfolding standardHeaders
 standard-back =
-    rw (computed .standard-written) at (reads-back standardHeaders standardPath (1 ∷ 2 ∷ 3 ∷ 4 ∷ 5 ∷ []) standard-typed (computed .standard-fills) (lit≤ tt))
+    reads-back standardHeaders standardPath standardRead 72 (take 72 standardPacket) (1 ∷ 2 ∷ 3 ∷ 4 ∷ []) (5 ∷ []) standard-typed (computed .standard-fills)
+    (computed .standard-written) refl
 
-service-back : readPacket (paddedPacket ++ []) ≡ round.packetOf serviceHeaders servicePath
+service-back : readPacket (paddedPacket ++ []) ≡ ok (round.packetOf serviceHeaders servicePath serviceRead [])
 unfolding serviceHeaders
-service-back = rw (computed .service-written) at (reads-back serviceHeaders servicePath [] service-typed (computed .service-fills) (lit≤ tt))
+service-back = reads-back serviceHeaders servicePath serviceRead 44 paddedPacket [] [] service-typed (computed .service-fills) (computed .service-written) refl
 
-padded-again : WrittenAgain paddedPacket
+-- a packet that was read, written again
+abbrev Again : List ℕ → Type 0
+Again bytes =
+    let p = packetIn bytes in
+    headers.writeHeaders (headersOf p) (p .path-bytes) (payloadPart p .start) ≡ ok (take (payloadPart p .start) bytes)
+
+padded-again : Again paddedPacket
 unfolding allBytes paddedPacket servicePacket
-padded-again = writes-again paddedPacket (of-bytes paddedPacket refl) (computed .padded-accepted) (computed .padded-zero)
+padded-again = writes-again paddedPacket (packetIn paddedPacket) (of-bytes paddedPacket refl) (computed .padded-accepted) (computed .padded-zero)
 
-short-again : WrittenAgain shortPacket
+short-again : Again shortPacket
 unfolding allBytes shortPacket small
-short-again = writes-again shortPacket (of-bytes shortPacket refl) (computed .short-accepted) (computed .short-zero)
+short-again = writes-again shortPacket (packetIn shortPacket) (of-bytes shortPacket refl) (computed .short-accepted) (computed .short-zero)

@@ -1,7 +1,7 @@
 -- A host is read from its own bytes alone, and written as the bytes that it was read from: sixteen bytes that begin with them keep them, and a service is its two bytes.
 -- Assumes nothing.
 use mathlib.Core.Path.{_≡_, refl, sym, ap, ap₂, _∙_}
-use mathlib.Core.Bool.{Bool, true, false}
+use mathlib.Core.Bool.{Bool, true, false, cond}
 use mathlib.Core.List.{List, [], _∷_, _++_}
 use Prim.Native.Nat.{ℕ, _+_, _^_, _≤_, _<_}
 use native.Mathlib.Nat.{mod-eq-of-lt}
@@ -10,17 +10,16 @@ use lib.ListN.{length, getD, take, drop, replicate, List·getD-append}
 use lib.Seq.{sets, sets-eq, take-at, take-all, take-take, drop-append-seam, getD-append-add}
 use lib.Dec.{eqb}
 use borrow.Author.Tests.{eqb-true}
-use Rattle.wire_encoding.specs.Choice.{pick}
 use Rattle.wire_encoding.specs.BigEndian.{bigEndian, bytesOf, part}
 use Rattle.wire_encoding.proofs.Parts.{Bytes, length-part, part-join}
 use Rattle.wire_encoding.proofs.Numbers.{below, bytes-read, read-bytesOf}
 use Rattle.address.specs.declared.host.HostAddr.the-variants.{V4, V6, Svc}
-use Rattle.common_header.specs.CommonHeader.{hostLength}
-use Rattle.address_header.specs.AddressHeader.{kindOf, hostOfKind, padded, hostAt}
-use Rattle.address_header_encoding.specs.Encoding.{serviceBytes, rawOf, hostOnWire, wireHostBytes, hostBytes}
-use Rattle.address_header.specs.declared.MaybeEncoded.the-variants.{Decoded, Encoded}
-use Rattle.address_header.specs.declared.HostAddress.{HostAddress}
-use Rattle.common_header_encoding.proofs.EncodingLaws.{host-few}
+use Rattle.packet_common_header.specs.CommonHeader.{hostLength}
+use Rattle.packet_address_header.specs.AddressHeader.{kindOf, hostOfKind, padded, hostAt, serviceBytes, rawOf, hostOnWire, wireHostBytes, hostBytes}
+use Rattle.packet_address_header.specs.declared.MaybeEncoded.the-variants.{Decoded, Encoded}
+use Rattle.packet_address_header.specs.declared.HostAddress.{HostAddress}
+use Rattle.packet_common_header.proofs.CommonLaws.{host-few}
+use Rattle.packet_address_header.proofs.ReadingLaws.{kind-of-kind}
 use Rattle.written_read.specs.WrittenRead.{hostRead, HostsReadBack, PaddingZero}
 
 -- THE TWO FORMS OF A HOST THAT IS READ
@@ -62,33 +61,15 @@ module _ (before own after : List ℕ) (kind : ℕ) (size : length own ≡ hostL
 
 -- WRITTEN AS IT WAS READ
 
--- a host that is no service: its kind, and its bytes
-kind-of-kind : (kind : ℕ) → kindOf (hostOfKind kind) ≡ kind
-unfolding kindOf hostOfKind
-kind-of-kind kind = go (eqb kind 0) (eqb kind 3) refl refl
-  where
-    go : (z t : Bool) → eqb kind 0 ≡ z → eqb kind 3 ≡ t → kindOf (pick z (Decoded V4) (pick t (Decoded V6) (Encoded kind))) ≡ kind
-    go true t ez et = sym (eqb-true kind 0 ez)
-    go false true ez et = sym (eqb-true kind 3 et)
-    go false false ez et = refl
-
+-- a host that is no service: its bytes
 raw-of-kind : (kind : ℕ) (bytes : List ℕ) → rawOf (hostOfKind kind) bytes ≡ bytes
 unfolding rawOf hostOfKind
 raw-of-kind kind bytes = go (eqb kind 0) (eqb kind 3)
   where
-    go : (z t : Bool) → rawOf (pick z (Decoded V4) (pick t (Decoded V6) (Encoded kind))) bytes ≡ bytes
+    go : (z t : Bool) → rawOf (cond z (Decoded V4) (cond t (Decoded V6) (Encoded kind))) bytes ≡ bytes
     go true t = refl
     go false true = refl
     go false false = refl
-
--- the kind of a host that was read
-pub kind-read : (kind : ℕ) (bytes : List ℕ) (at : ℕ) → kindOf (hostAt kind bytes at .host) ≡ kind
-unfolding kindOf
-kind-read kind bytes at = go (eqb kind 4) refl
-  where
-    go : (t : Bool) → eqb kind 4 ≡ t → kindOf (hostAt kind bytes at .host) ≡ kind
-    go true e = rw (host-service kind bytes at e) (sym (eqb-true kind 4 e))
-    go false e = rw (host-other kind bytes at e) (kind-of-kind kind)
 
 -- a service's four bytes
 service-bytes : (number : ℕ) → hostBytes (serviceHost number) ≡ bytesOf 2 number ++ (0 ∷ 0 ∷ [])

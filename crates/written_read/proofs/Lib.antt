@@ -1,7 +1,7 @@
 pub mod Hosts
 pub mod Commons
 pub mod Addresses
-pub mod Stages
+pub mod InOrder
 pub mod ReadsBack
 pub mod WritesAgain
 pub mod NewHeaders

@@ -1,30 +1,28 @@
 -- New headers fill their length exactly where their path is a multiple of 4 bytes, as every empty and every standard path is; else the path's last bytes are lost to the payload.
 -- Assumes nothing.
-use mathlib.Core.Path.{_≡_, refl, sym, ap, _∙_}
+use mathlib.Core.Path.{_≡_, refl, ap}
 use mathlib.Core.List.{List, [], _∷_}
 use Prim.Native.Nat.{ℕ, _*_, _%_}
 use native.Mathlib.Omega.{arith}
 use lib.ListN.{length, drop, replicate}
+use Rattle.wire_encoding.specs.Result.{ok}
 use Rattle.wire_encoding.specs.BigEndian.{bigEndian, bytesOf}
+use Rattle.wire_encoding.proofs.Results.{same-value, stepped}
 use Rattle.address.specs.declared.host.HostAddr.the-variants.{V4}
 use Rattle.path_meta_header.specs.MetaHeader.{pathLength}
+use Rattle.path_meta_header.specs.declared.PathMetaHeader.{PathMetaHeader}
 use Rattle.path_error.specs.Errors.{decodedNumber}
-use Rattle.path_error.specs.declared.Decoded.{Decoded as Answer}
-use Rattle.path_error.specs.declared.Decoded.the-variants.{Accepted, Refused}
 use Rattle.path.specs.Standard.{readPath}
 use Rattle.path.specs.Dataplane as dataplane
-use Rattle.path.specs.Dataplane.{readDataplane, standardRead}
-use Rattle.common_header.specs.CommonHeader as common
-use Rattle.common_header.specs.CommonHeader.{hostLength}
-use Rattle.address_header.specs.AddressHeader as address
-use Rattle.address_header.specs.AddressHeader.{lengthOfKinds, addressLength}
-use Rattle.common_header_encoding.specs.Encoding as common-encode
-use Rattle.address_header_encoding.specs.Encoding as address-encode
-use Rattle.address_header.specs.declared.MaybeEncoded.the-variants.{Decoded}
-use Rattle.address_header.specs.declared.AddressHeader.{AddressHeader}
-use Rattle.common_header_encoding.specs.declared.error.Encoded.the-variants.{Done}
+use Rattle.path.specs.Dataplane.{Extent, readDataplane}
+use Rattle.packet_common_header.specs.CommonHeader as common
+use Rattle.packet_common_header.specs.CommonHeader.{hostLength}
+use Rattle.packet_address_header.specs.AddressHeader as address
+use Rattle.packet_address_header.specs.AddressHeader.{lengthOfKinds, addressLength}
+use Rattle.packet_address_header.specs.declared.MaybeEncoded.the-variants.{Decoded}
+use Rattle.packet_address_header.specs.declared.AddressHeader.{AddressHeader}
 use Rattle.packet.specs.Raw as raw
-use Rattle.packet.specs.Raw.{readPacket}
+use Rattle.packet.specs.Raw.{readPacket, packetAnswer}
 use Rattle.packet.specs.declared.raw.ScionPacketRaw.{ScionPacketRaw}
 use Rattle.headers.specs.Headers.{
   addedLength,
@@ -32,8 +30,8 @@ use Rattle.headers.specs.Headers.{
   headersLength,
   newHeaders,
   commonOf,
-  encoding,
   headerBytes,
+  writeHeaders,
 }
 use Rattle.headers.specs.declared.ScionHeaders.{ScionHeaders}
 use Rattle.written_read.specs.WrittenRead.{Fills}
@@ -53,35 +51,24 @@ module _ (a : AddressHeader) (type : ℕ) (path : List ℕ) (next payload flow :
   unfolding headersLength addressLength lengthOfKinds hostLength
   full-four full = omega arith
 
-  pub new-fills : addedLength type (length path) % 4 ≡ 0 → encoding new (length path) (headersLength a type (length path)) ≡ Done
-      → readDataplane type (addedBytes type path) .answer ≡ Accepted
-      → readDataplane type (addedBytes type path) .length ≡ length (addedBytes type path)
-      → Fills new path
+  pub new-fills : (m : PathMetaHeader) → addedLength type (length path) % 4 ≡ 0
+      → readDataplane type (addedBytes type path) ≡ ok (record { header = m; length = length (addedBytes type path) }) → Fills new path m
   unfolding newHeaders
-  new-fills four accepted path-accepted path-whole = record {
-    accepted = accepted;
-    version = refl;
-    full = new-full four;
-    path-accepted = path-accepted;
-    path-whole = path-whole;
-  }
+  new-fills m four path-read = record { version = refl; full = new-full four; path-read = path-read }
 
 -- an empty path and a standard path
 pub empty-four : (n : ℕ) → addedLength 0 n % 4 ≡ 0
 unfolding addedLength
 empty-four n = refl
 
-standard-four : (path : List ℕ) → readDataplane 1 path .length % 4 ≡ 0
-unfolding readDataplane standardRead pathLength
-standard-four path = go (readPath path .answer)
-  where
-    go : (answer : Answer) → standardRead answer (readPath path .path) .length % 4 ≡ 0
-    go Accepted = omega arith
-    go (Refused error) = refl
+standard-four : (path : List ℕ) {read : Extent} → readDataplane 1 path ≡ ok read → read .length % 4 ≡ 0
+unfolding readDataplane pathLength
+standard-four path h = let header = stepped (readPath path) _ h in omega (arith, ap (λ (r : Extent). r .length) (same-value (header .then)))
 
-pub standard-whole-four : (path : List ℕ) → readDataplane 1 path .length ≡ length path → addedLength 1 (length path) % 4 ≡ 0
+pub standard-whole-four : (path : List ℕ) {m : PathMetaHeader} → readDataplane 1 path ≡ ok (record { header = m; length = length path })
+    → addedLength 1 (length path) % 4 ≡ 0
 unfolding addedLength
-standard-whole-four path whole = ap (λ (n : ℕ). n % 4) (sym whole) ∙ standard-four path
+standard-whole-four path h = standard-four path h
 
 -- WHERE THEY DON'T
 
@@ -112,13 +99,13 @@ found p =
     ∷ []
 
 -- they are written; the path is read as 0 bytes, and its 3 bytes follow the headers
-pub lost : (encoding short 3 39 ≡ Done) × (found (readPacket written) ≡ 0 ∷ 9 ∷ 36 ∷ 0 ∷ 36 ∷ 0 ∷ []) × (drop 36 written ≡ 7 ∷ 8 ∷ 9 ∷ [])
+pub lost : (writeHeaders short (7 ∷ 8 ∷ 9 ∷ []) 39 ≡ ok written) × (found (packetAnswer (readPacket written)) ≡ 0 ∷ 9 ∷ 36 ∷ 0 ∷ 36 ∷ 0 ∷ []) × (drop 36 written ≡ 7 ∷ 8 ∷ 9 ∷ [])
 unfolding bigEndian bytesOf
-    dataplane.unread dataplane.readDataplane
+    dataplane.readDataplane
     common.commonAt common.readCommon common.headerLength common.hostLength
-    address.kindOf address.lengthOfKinds address.addressLength address.readAddress
-    common-encode.fieldsFit common-encode.commonFits common-encode.commonBytes address-encode.rawOf address-encode.hostOnWire address-encode.onWire
-    address-encode.wireHostBytes address-encode.wireBytes address-encode.addressBytes
-    raw.headerEnd raw.afterPath raw.pathFound raw.afterAddress raw.addressFound raw.afterCommon raw.commonFound raw.readPacket
-    addedLength addedBytes headersLength newHeaders commonOf encoding headerBytes
+    address.kindOf address.hostOfKind address.hostAt address.lengthOfKinds address.addressLength address.addressAt address.readAddress
+    common.fieldsFit common.commonFits common.commonBytes address.rawOf address.hostOnWire address.onWire
+    address.wireHostBytes address.wireBytes address.addressBytes
+    raw.readPacket raw.pathPart raw.payloadPart raw.packetAnswer
+    addedLength addedBytes headersLength newHeaders commonOf headerBytes writeHeaders
 lost = (refl, refl, refl)

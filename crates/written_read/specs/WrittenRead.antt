@@ -4,19 +4,26 @@ use Prim.Native.Nat.{ℕ, _+_, _*_, _^_, _≤_, _<_}
 use mathlib.Core.Path.{_≡_}
 use mathlib.Core.List.{List, [], _∷_, _++_}
 use lib.ListN.{length, getD, take}
+use Rattle.wire_encoding.specs.Result.{ok}
 use Rattle.wire_encoding.specs.BigEndian.{part}
-use Rattle.path_error.specs.declared.Decoded.the-variants.{Accepted}
-use Rattle.path.specs.Dataplane.{readDataplane, partIn}
-use Rattle.common_header.specs.CommonHeader.{hostLength}
-use Rattle.address_header.specs.AddressHeader.{kindOf, hostAt, addressLength}
-use Rattle.address_header_encoding.specs.Encoding.{hostBytes}
-use Rattle.address_header.specs.declared.HostAddress.{HostAddress}
-use Rattle.address_header.specs.declared.AddressHeader.{AddressHeader}
-use Rattle.common_header_encoding.specs.declared.error.Encoded.the-variants.{Done}
-use Rattle.packet.specs.Raw.{readPacket}
-use Rattle.packet.specs.declared.raw.ScionPacketRaw.{ScionPacketRaw}
-use Rattle.headers.specs.Headers.{addedBytes, headersLength, commonOf, encoding, headerBytes}
+use Rattle.path_meta_header.specs.declared.PathMetaHeader.{PathMetaHeader}
+use Rattle.path.specs.Dataplane.{readDataplane}
+use Rattle.packet_common_header.specs.CommonHeader.{hostLength}
+use Rattle.packet_address_header.specs.AddressHeader.{kindOf, hostAt, addressLength, hostBytes}
+use Rattle.packet_address_header.specs.declared.HostAddress.{HostAddress}
+use Rattle.packet_address_header.specs.declared.AddressHeader.{AddressHeader}
+use Rattle.packet.specs.Raw.{Packet, readPacket, payloadPart}
+use Rattle.headers.specs.Headers.{addedBytes, headersLength, commonOf, writeHeaders}
 use Rattle.headers.specs.declared.ScionHeaders.{ScionHeaders}
+
+-- A PACKET IN ORDER
+
+-- the bytes of a packet that was read: common header, address header, path and payload, one after the other
+abbrev pub InOrder : Type 0
+InOrder =
+    (bytes : List ℕ) (p : Packet) → readPacket bytes ≡ ok p
+    → take (payloadPart p .start + payloadPart p .len) bytes
+    ≡ take 12 bytes ++ (part 12 (addressLength (p .address)) bytes ++ (p .path-bytes ++ p .payload))
 
 -- READING WHAT WAS WRITTEN
 
@@ -35,15 +42,14 @@ pub record Typed (h : ScionHeaders) : Type 0 where
   pub destination : TypedHost (h .address .destination)
   pub source : TypedHost (h .address .source)
 
--- headers that are written and fill their length: the encoder accepts them, their version is the one that is read, 4 × factor is the
--- length that is written, and the path is read whole. Others aren't read back: a factor that was rounded down leaves the last bytes of
--- the path to the payload, and a larger one takes bytes from it.
-pub record Fills (h : ScionHeaders) (path : List ℕ) : Type 0 where
-  pub accepted : encoding h (length path) (headersLength (h .address) (h .«path_type») (length path)) ≡ Done
+-- headers that fill their length: their version is the one that is read, 4 × factor is the length that is written, and the path is
+-- read whole. Others aren't read back: a factor that was rounded down leaves the last bytes of the path to the payload, and a larger
+-- one takes bytes from it.
+pub record Fills (h : ScionHeaders) (path : List ℕ) (m : PathMetaHeader) : Type 0 where
   pub version : h .version ≡ 0
   pub full : h .«header_length_factor» * 4 ≡ headersLength (h .address) (h .«path_type») (length path)
-  pub path-accepted : readDataplane (h .«path_type») (addedBytes (h .«path_type») path) .answer ≡ Accepted
-  pub path-whole : readDataplane (h .«path_type») (addedBytes (h .«path_type») path) .length ≡ length (addedBytes (h .«path_type») path)
+  pub path-read :
+      readDataplane (h .«path_type») (addedBytes (h .«path_type») path) ≡ ok (record { header = m; length = length (addedBytes (h .«path_type») path) })
 
 -- a host as reading hands it back: by its kind, the bytes after its own zero
 unfoldable pub hostRead : HostAddress → HostAddress
@@ -58,24 +64,23 @@ addressRead a =
       source = hostRead (a .source);
     }
 
--- the packet that is read: every value, the path after the address header, the payload after the path
-unfoldable pub packetOf : ScionHeaders → List ℕ → ScionPacketRaw
-packetOf h path =
-    let added = addedBytes (h .«path_type») path in
+-- the packet that is read: every value, the path's bytes and the payload's
+unfoldable pub packetOf : ScionHeaders → List ℕ → PathMetaHeader → List ℕ → Packet
+packetOf h path m payload =
     record {
-      answer = Accepted;
       common = commonOf h;
       address = addressRead (h .address);
-      path = readDataplane (h .«path_type») added .path;
-      «path_part» = record { start = 12 + addressLength (h .address); len = length added };
-      «payload_part» = record { start = headersLength (h .address) (h .«path_type») (length path); len = h .«payload_length» };
+      path = m;
+      path-bytes = addedBytes (h .«path_type») path;
+      payload = payload;
     }
 
--- whatever follows the headers, as long as the payload is there
+-- whatever follows the payload
 abbrev pub ReadsBack : Type 0
 ReadsBack =
-    (h : ScionHeaders) (path after : List ℕ) → Typed h → Fills h path → h .«payload_length» ≤ length after
-    → readPacket (headerBytes h path ++ after) ≡ packetOf h path
+    (h : ScionHeaders) (path : List ℕ) (m : PathMetaHeader) (size : ℕ) (written payload after : List ℕ) → Typed h → Fills h path m
+    → writeHeaders h path size ≡ ok written → length payload ≡ h .«payload_length»
+    → readPacket (written ++ (payload ++ after)) ≡ ok (packetOf h path m payload)
 
 -- a host that was read is read back as it is
 abbrev pub HostsReadBack : Type 0
@@ -86,7 +91,7 @@ HostsReadBack =
 -- WRITING AGAIN WHAT WAS READ
 
 -- the headers of a packet that was read, its factor and its reserved bytes with them
-unfoldable pub headersOf : ScionPacketRaw → ScionHeaders
+unfoldable pub headersOf : Packet → ScionHeaders
 headersOf p =
     record {
       version = p .common .version;
@@ -104,16 +109,12 @@ headersOf p =
 pub record PaddingZero (kind : ℕ) (bytes : List ℕ) (at : ℕ) : Type 0 where
   pub padding : kind ≡ 4 → part (at + 2) 2 bytes ≡ 0 ∷ 0 ∷ []
 
-pub record Unpadded (bytes : List ℕ) : Type 0 where
-  pub destination : PaddingZero (readPacket bytes .common .«destination_kind») bytes 28
-  pub source : PaddingZero (readPacket bytes .common .«source_kind») bytes (28 + hostLength (readPacket bytes .common .«destination_kind»))
+pub record Unpadded (bytes : List ℕ) (p : Packet) : Type 0 where
+  pub destination : PaddingZero (p .common .«destination_kind») bytes 28
+  pub source : PaddingZero (p .common .«source_kind») bytes (28 + hostLength (p .common .«destination_kind»))
 
 -- the encoder accepts them, and writes the bytes before the payload; a packet shorter than its header length is written so too
-pub record WrittenAgain (bytes : List ℕ) : Type 0 where
-  pub accepted :
-      encoding (headersOf (readPacket bytes)) (length (partIn bytes (readPacket bytes .«path_part»))) (readPacket bytes .«payload_part» .start) ≡ Done
-  pub same : headerBytes (headersOf (readPacket bytes)) (partIn bytes (readPacket bytes .«path_part»)) ≡ take (readPacket bytes .«payload_part» .start) bytes
-
 abbrev pub WritesAgain : Type 0
 WritesAgain =
-    (bytes : List ℕ) → ((i : ℕ) → getD bytes i 0 < 256) → readPacket bytes .answer ≡ Accepted → Unpadded bytes → WrittenAgain bytes
+    (bytes : List ℕ) (p : Packet) → ((i : ℕ) → getD bytes i 0 < 256) → readPacket bytes ≡ ok p → Unpadded bytes p
+    → writeHeaders (headersOf p) (p .path-bytes) (payloadPart p .start) ≡ ok (take (payloadPart p .start) bytes)

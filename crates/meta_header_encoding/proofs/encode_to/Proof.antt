@@ -1,5 +1,13 @@
 -- `encode_to` meets its contract: what `as_u32` answers, then the size.
-use Rattle.meta_header_encoding.proofs.EncodingLaws.{word-is, word-wide, encoded-done, encoded-size, encoded-wide}
+use mathlib.Core.Path.{refl, sym, _∙_}
+use borrow.Author.Tests.{ne-eqb}
+use Rattle.wire_encoding.specs.BigEndian.{bytesOf}
+use Rattle.wire_encoding.proofs.Numbers.{length-bytesOf}
+use Rattle.wire_encoding.proofs.Writes.{placed-whole}
+use Rattle.path_error.specs.Errors.{encodedOf}
+use Rattle.path_error.proofs.Told.{written}
+use Rattle.meta_header_encoding.specs.Encoding.{wordOf, writeMeta}
+use Rattle.meta_header_encoding.proofs.EncodingLaws.{word-is, word-wide, meta-written}
 use borrow.Author.Needs.{needs}
 use Rattle.meta_header_encoding.proofs.encode_to.Statement.{statement}
 use Rattle.meta_header_encoding.proofs.encode_to.Tie as tie
@@ -20,17 +28,22 @@ returns : tie.Need-returns
 returns c =
     let m = c .before .before .before .before .before .before .before .before .before .before .args .meta-header in
     let known = word-is m (rw (c .before .before .before .before .before .before .number .given .1) at (c .before .before .before .before .before .before .before .before .as-u32 .ensures)) in
-    encoded-done m _ (known .0) (c .before .before .before .before .if1 .taken)
-    (rw (known .1) at (c .before .before .put-u32 .ensures .1))
+    let size = c .before .before .before .before .if1 .taken in
+    written _ _ (meta-written m _ (known .0) size)
+    (rw (known .1) at (c .before .before .put-u32 .ensures .1) ∙ placed-whole (bytesOf 4 (wordOf m)) _ (length-bytesOf 4 (wordOf m) ∙ sym size))
 
 enum-told : tie.Need-enum-told
 enum-told c = search needs
 
 returns-2 : tie.Need-returns-2
-returns-2 c = encoded-size _ _ (word-is (c .before .before .before .before .before .before .args .meta-header) (rw (c .before .before .number .given .1) at (c .before .before .before .before .as-u32 .ensures)) .0) (c .if1 .left)
+unfolding writeMeta encodedOf
+returns-2 c =
+    let m = c .before .before .before .before .before .before .args .meta-header in
+    rw (word-is m (rw (c .before .before .number .given .1) at (c .before .before .before .before .as-u32 .ensures)) .0, ne-eqb _ _ (c .if1 .left)) (refl, refl)
 
 returns-3 : tie.Need-returns-3
-returns-3 c = encoded-wide _ _ (word-wide (c .before .before .before .before .args .meta-header) (rw (c .enum-told .given .1) at (c .before .before .as-u32 .ensures)))
+unfolding writeMeta encodedOf
+returns-3 c = rw (word-wide (c .before .before .before .before .args .meta-header) (rw (c .enum-told .given .1) at (c .before .before .as-u32 .ensures))) (refl, refl)
 
 pub encode-to-spec : {M : Type 1} → statement M
 encode-to-spec =

@@ -1,20 +1,19 @@
 -- `is_spared` meets its contract: an owner below s0 can only be s0 − 1, and any other only s0.
 use Prim.Native.Nat.{ℕ, _+_, _-_, _/_, _%_, _^_, _<_}
 use mathlib.Core.Path.{_≡_, refl, sym, _∙_}
-use mathlib.Core.Bool.{Bool, true, false}
+use mathlib.Core.Bool.{Bool, true, false, _||_}
 use native.Mathlib.Omega.{arith}
 use lib.Dec.{eqb}
 use borrow.Author.Needs.{needs}
 use borrow.Author.Tests.{eq-eqb, ne-eqb, eqb-true, eqb-false}
-use Rattle.wire_encoding.specs.Choice.{pick}
 use Rattle.move_rules.specs.Rules.{spared}
 use Rattle.move_rules.proofs.is_spared.Statement.{statement}
 use Rattle.move_rules.proofs.is_spared.Tie as tie
 
-below : (owner s0 : ℕ) → owner < s0 → eqb owner (s0 - 1) ≡ pick (eqb (owner + 1) s0) true (eqb owner s0)
+below : (owner s0 : ℕ) → owner < s0 → eqb owner (s0 - 1) ≡ eqb (owner + 1) s0 || eqb owner s0
 below owner s0 h = go (eqb (owner + 1) s0) refl
   where
-    go : (t : Bool) → eqb (owner + 1) s0 ≡ t → eqb owner (s0 - 1) ≡ pick t true (eqb owner s0)
+    go : (t : Bool) → eqb (owner + 1) s0 ≡ t → eqb owner (s0 - 1) ≡ t || eqb owner s0
     go true e = eq-eqb owner (s0 - 1) (omega (arith, eqb-true (owner + 1) s0 e))
     go false e = ne-eqb owner (s0 - 1) (λ x. omega (arith, eqb-false (owner + 1) s0 e)) ∙ sym (ne-eqb owner s0 (λ x. omega arith))
 

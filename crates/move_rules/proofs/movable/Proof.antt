@@ -1,7 +1,6 @@
 -- `movable` meets its contract: reading, then the type, then the state; a path that was read is whole.
-use Rattle.path.specs.Dataplane.{onStandard, carriedOut}
-use Rattle.path.proofs.Reading.{goes-on}
-use Rattle.move_rules.specs.Rules.{movableOf}
+use Rattle.path.proofs.Reading.{answer-ok, answer-refused, standard-readable}
+use Rattle.move_rules.specs.Rules.{movable}
 use borrow.Author.Needs.{needs}
 use Rattle.move_rules.proofs.movable.Statement.{statement}
 use Rattle.move_rules.proofs.movable.Tie as tie
@@ -16,10 +15,7 @@ enum-told : tie.Need-enum-told
 enum-told c = search needs
 
 state-requires : tie.Need-state-requires
-state-requires c κs = goes-on _ _ (c .before .before .standard .ensures) (c .enum-told .given .1) .whole
-
-answered-requires : tie.Need-answered-requires
-answered-requires c κs = search needs
+state-requires c κs = standard-readable _ _ (answer-ok _ (c .before .before .standard .ensures) (c .enum-told .given .1)) .whole
 
 enum-known-answer : tie.Need-enum-known-answer
 enum-known-answer c = search needs
@@ -28,19 +24,12 @@ refused-requires : tie.Need-refused-requires
 refused-requires c κs = search needs
 
 returns : tie.Need-returns
-unfolding movableOf onStandard carriedOut
-returns c =
-    rw (
-      ← c .before .before .before .before .before .new .ensures,
-      ← c .before .before .before .before .standard .ensures,
-      c .before .before .enum-told .given .1,
-      ← c .before .state .ensures,
-    )
-    (c .answered .ensures)
+unfolding movable
+returns c = rw (← c .before .before .before .before .new .ensures, answer-ok _ (c .before .before .before .standard .ensures) (c .before .enum-told .given .1)) (c .state .ensures)
 
 returns-2 : tie.Need-returns-2
-unfolding movableOf onStandard carriedOut
-returns-2 c = rw (← c .before .before .before .before .before .new .ensures, ← c .before .before .before .before .standard .ensures, c .before .before .answer .given .1) (c .refused .ensures)
+unfolding movable
+returns-2 c = rw (← c .before .before .before .before .before .new .ensures, answer-refused _ (c .before .before .before .before .standard .ensures) (c .before .before .answer .given .1)) (c .refused .ensures)
 
 pub movable-spec : {M : Type 1} → statement M
 movable-spec =
@@ -50,7 +39,6 @@ movable-spec =
     standard-requires
     enum-told
     state-requires
-    answered-requires
     enum-known-answer
     refused-requires
     returns

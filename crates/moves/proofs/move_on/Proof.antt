@@ -1,12 +1,12 @@
 -- `move_on` meets its contract: the last hop field, then one step.
 use Prim.Native.Nat.{_+_}
 use mathlib.Core.Path.{refl}
-use borrow.Author.Tests.{lt-ltb, le-ltb}
+use borrow.Author.Tests.{le-ltb}
 use native.Mathlib.Omega.{arith}
 use Rattle.path_meta_header.specs.MetaHeader.{hopFieldsCount}
-use Rattle.path.specs.Dataplane.{carriedOut}
-use Rattle.moves.specs.Moves.{moveAnswer, moved, notLast}
-use Rattle.move_rules.specs.Rules.{onMovable}
+use Rattle.path.specs.Dataplane.{pathAnswer}
+use Rattle.moves.specs.Moves.{CanMove, move, moved, notLast}
+use Rattle.moves.proofs.Laws.{one-move, read-moved}
 use borrow.Author.Needs.{needs}
 use Rattle.moves.proofs.move_on.Statement.{statement}
 use Rattle.moves.proofs.move_on.Tie as tie
@@ -21,7 +21,7 @@ hop-fields-count-requires : tie.Need-hop-fields-count-requires
 hop-fields-count-requires c κs = search needs
 
 step-requires : tie.Need-step-requires
-step-requires c κs = record { movable = c .before .before .before .before .before .pre; before-last = omega arith }
+step-requires c κs = record { able = c .before .before .before .before .before .pre; before-last = omega arith }
 
 accepted-requires : tie.Need-accepted-requires
 accepted-requires c κs = search needs
@@ -30,22 +30,23 @@ same-length : tie.Need-same-length
 same-length c = search needs
 
 returns : tie.Need-returns
-unfolding moveAnswer moved onMovable carriedOut notLast
+unfolding moved pathAnswer
 returns c =
     let start = c .before .before .before .before .before .before .before .before .before in
-    let m = start .args .meta-header in
+    let bytes = c .before .before .before .before .before .before .before .before .slice-known .given in
     let step = c .before .before .before .step .ensures in
-    rw (start .pre .read, lt-ltb (m .«current_hop_field» + 1) (hopFieldsCount m) (omega arith)) (rw (← step .0) (c .accepted .ensures), step .1)
+    let can : CanMove (start .args .bytes .now) (start .args .meta-header) = record { able = start .pre; before-last = omega arith } in
+    rw (one-move _ _ can) (rw (read-moved _ _ can bytes, ← step .0) (c .accepted .ensures), step .1)
 
 refused-requires : tie.Need-refused-requires
 refused-requires c κs = search needs
 
 returns-2 : tie.Need-returns-2
-unfolding moveAnswer moved onMovable carriedOut notLast
+unfolding moved move notLast
 returns-2 c =
     let start = c .before .before .before .before .before in
     let m = start .args .meta-header in
-    rw (start .pre .read, le-ltb (m .«current_hop_field» + 1) (hopFieldsCount m) (omega arith)) (c .refused .ensures, refl)
+    rw (start .pre, le-ltb (m .«current_hop_field» + 1) (hopFieldsCount m) (omega arith)) (c .refused .ensures, refl)
 
 pub move-on-spec : {M : Type 1} → statement M
 move-on-spec =

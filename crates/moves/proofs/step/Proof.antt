@@ -1,9 +1,9 @@
 -- `step` meets its contract: it applies the move from the header's own position, whose pointers fit their bits.
 use borrow.Author.Needs.{needs}
-use mathlib.Core.Path.{_∙_}
+use mathlib.Core.Path.{sym, _∙_}
 use native.Mathlib.Omega.{arith}
-use Rattle.moves.specs.Moves.{movedMeta, moveBytes}
-use Rattle.moves.proofs.Laws.{standing, fits}
+use Rattle.moves.specs.Moves.{movedMeta}
+use Rattle.moves.proofs.Laws.{standing, fits, move-applied}
 use Rattle.moves.proofs.step.Statement.{statement}
 use Rattle.moves.proofs.step.Tie as tie
 
@@ -30,11 +30,17 @@ same-length : tie.Need-same-length
 same-length c = search needs
 
 returns : tie.Need-returns
-unfolding movedMeta moveBytes
+unfolding movedMeta
 returns c =
     let made = c .before .before .before .before .before .before .before .moved .ensures in
     let of-own = c .before .before .before .before .before .before .before .before .before .of .ensures in
-    (c .at-position .ensures ∙ rw (made, of-own), c .before .before .before .before .apply .ensures ∙ rw (c .before .before .before .before .before .wide .ensures .0, made, of-own))
+    let bytes = c .before .before .before .before .before .before .before .before .before .before .slice-known .given in
+    let start = c .before .before .before .before .before .before .before .before .before .before .before in
+    let s = standing _ _ (start .pre) in (
+      c .at-position .ensures ∙ rw (made, of-own),
+      c .before .before .before .before .apply .ensures ∙ rw (c .before .before .before .before .before .wide .ensures .0, made, of-own)
+          (sym (move-applied (start .args .bytes .now) (start .args .meta-header) bytes (omega arith))),
+    )
 
 pub step-spec : {M : Type 1} → statement M
 step-spec =

@@ -1,9 +1,8 @@
 -- `walk` meets its contract: reading, the type and the state, then the walk.
 use mathlib.Core.Path.{refl}
-use Rattle.path.specs.Dataplane.{carriedOut}
-use Rattle.moves.specs.Moves.{walkCount, walked, walkAnswer}
-use Rattle.move_rules.specs.Rules.{onMovable}
-use Rattle.move_rules.proofs.Known.{goes-on, type-known}
+use Rattle.path.proofs.Reading.{answer-refused}
+use Rattle.moves.specs.Moves.{walked, walk, walkAnswer}
+use Rattle.move_rules.proofs.Known.{goes-on}
 use borrow.Author.Needs.{needs}
 use Rattle.moves.proofs.walk.Statement.{statement}
 use Rattle.moves.proofs.walk.Tie as tie
@@ -15,7 +14,7 @@ enum-told : tie.Need-enum-told
 enum-told c = search needs
 
 walk-on-requires : tie.Need-walk-on-requires
-walk-on-requires c κs = goes-on _ _ (c .before .before .before .movable .ensures) (c .before .enum-told .given .1)
+walk-on-requires c κs = goes-on _ _ (c .before .before .before .movable .ensures) (c .before .enum-told .given .1) .1
 
 enum-known-answer : tie.Need-enum-known-answer
 enum-known-answer c = search needs
@@ -29,14 +28,14 @@ same-length c = search needs
 returns : tie.Need-returns
 returns c =
     let a = c .before .before .before .before .before .before .before .before .before .args in
-    rw (type-known (a .bytes .now) (a .path-type) (c .before .before .before .before .before .before .movable .ensures) (c .before .before .before .before .enum-told .given .1)) (c .before .before .walk-on .ensures)
+    rw (goes-on (a .path-type) (a .bytes .now) (c .before .before .before .before .before .before .movable .ensures) (c .before .before .before .before .enum-told .given .1) .0) (c .before .before .walk-on .ensures)
 
 same-length-2 : tie.Need-same-length-2
 same-length-2 c = search needs
 
 returns-2 : tie.Need-returns-2
-unfolding walkAnswer walked walkCount onMovable carriedOut
-returns-2 c = rw (← c .before .before .before .before .movable .ensures, c .before .before .answer .given .1) (c .refused .ensures, refl)
+unfolding walked walk walkAnswer
+returns-2 c = rw (answer-refused _ (c .before .before .before .before .movable .ensures) (c .before .before .answer .given .1)) (c .refused .ensures, refl)
 
 pub walk-spec : {M : Type 1} → statement M
 walk-spec =

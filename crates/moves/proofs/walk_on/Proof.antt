@@ -1,9 +1,10 @@
 -- `walk_on` meets its contract: the steps; the limit and the last hop field bound their number.
 use Prim.Native.Nat.{_<_}
+use mathlib.Core.Path.{refl}
 use native.Mathlib.Omega.{arith}
-use Rattle.moves.specs.Moves.{walkMoves}
-use Rattle.move_rules.proofs.Known.{movable-known}
-use Rattle.moves.proofs.Walks.{reported}
+use Rattle.moves.specs.Moves.{walkMoves, walked, walkAnswer}
+use Rattle.move_rules.proofs.Known.{known}
+use Rattle.moves.proofs.Walks.{way}
 use borrow.Author.Needs.{needs}
 use Rattle.moves.proofs.walk_on.Statement.{statement}
 use Rattle.moves.proofs.walk_on.Tie as tie
@@ -18,7 +19,7 @@ wide-requires c κs = search needs
 short : (c : tie.After-wide) → c .before .before .before .before .steps .result .moves < 64
 unfolding walkMoves
 short c =
-    let few = movable-known _ _ (c .before .before .before .before .before .before .before .pre) .few in
+    let few = known _ _ (c .before .before .before .before .before .before .before .pre) .few in
     let made = c .before .before .before .before .steps .ensures .0 in
     omega arith
 
@@ -35,9 +36,11 @@ same-length : tie.Need-same-length
 same-length c = search needs
 
 returns : tie.Need-returns
+unfolding walked walkAnswer
 returns c =
+    let start = c .before .before .before .before .before .before .before .before in
     let steps = c .before .before .before .before .before .steps .ensures in
-    rw (c .before .wide .ensures .0, c .hop-fields-count .ensures .0) (reported _ _ _ (c .before .before .before .before .before .before .before .before .pre) (steps .0) (steps .1 .0) (steps .1 .1))
+    rw (c .before .wide .ensures .0, c .hop-fields-count .ensures .0, way _ _ _ (start .pre) (steps .0), steps .1 .0) (refl, steps .1 .1)
 
 pub walk-on-spec : {M : Type 1} → statement M
 walk-on-spec =

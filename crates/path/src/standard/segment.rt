@@ -8,7 +8,9 @@ use path_fields::InfoField;
 use path_meta_header::PathMetaHeader;
 ghost use mathlib.Core.Path.{_≡_};
 ghost use Prim.Native.Nat.{_<_};
+ghost use Rattle.wire_encoding.specs.Result.{ok, refused};
 ghost use Rattle.path_meta_header.specs.MetaHeader.{infoFieldsCount};
+ghost use Rattle.path.specs.Dataplane as dataplane;
 ghost use Rattle.path.specs.Segment as spec;
 
 // A segment: where its info field and its hop fields lie; all zero where it was refused.
@@ -21,7 +23,7 @@ pub struct Segment {
 
 impl Segment {
     pub(crate) fn refused(error: PathError) -> Segment
-        ensures { λ r. ⌜ r ≡ spec.noSegment error ⌝ }
+        ensures { λ r. ⌜ r ≡ dataplane.segment (refused error) (refused error) ⌝ }
     {
         let path = StandardPath::zero();
         Segment {
@@ -35,7 +37,7 @@ impl Segment {
     // Segment `k` of a path that was read, which is there.
     fn there(path: StandardPath, k: usize) -> Segment
         requires { ⌜ k < infoFieldsCount (path .«meta_header») ⌝ }
-        ensures { λ r. ⌜ r ≡ spec.segmentOfPath path k ⌝ }
+        ensures { λ r. ⌜ r ≡ dataplane.segment (ok (path .«meta_header»)) (spec.segmentOfPath (path .«meta_header») k) ⌝ }
     {
         let count = path.meta_header.info_fields_count();
         let info_field = Part {
@@ -58,7 +60,7 @@ impl Segment {
 
     // Segment `k` of a path that was read.
     pub(crate) fn of(path: StandardPath, k: usize) -> Segment
-        ensures { λ r. ⌜ r ≡ spec.segmentOfPath path k ⌝ }
+        ensures { λ r. ⌜ r ≡ dataplane.segment (ok (path .«meta_header»)) (spec.segmentOfPath (path .«meta_header») k) ⌝ }
     {
         if k < path.meta_header.info_fields_count() {
             return Segment::there(path, k);

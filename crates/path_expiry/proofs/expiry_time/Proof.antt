@@ -1,8 +1,7 @@
 -- `expiry_time` meets its contract: the order of calls on standard paths, then the least over the segments.
 use native.Mathlib.Omega.{arith}
-use Rattle.path.specs.Dataplane as path
 use Rattle.path_expiry.specs.Expiry as spec
-use Rattle.path.proofs.Reading.{goes-on}
+use Rattle.path.proofs.Reading.{answer-ok, answer-refused, standard-readable}
 use borrow.Author.Needs.{needs}
 use Rattle.path_expiry.proofs.expiry_time.Statement.{statement}
 use Rattle.path_expiry.proofs.expiry_time.Tie as tie
@@ -16,7 +15,7 @@ enum-told c = search needs
 path-expiry-requires : tie.Need-path-expiry-requires
 path-expiry-requires c κs =
     let a = c .before .before .before .before .args in
-    let r = goes-on (a .bytes .now) (a .dataplane .«path_type») (c .before .before .standard .ensures) (c .enum-told .given .1) in
+    let r = standard-readable (a .bytes .now) (a .dataplane .«path_type») (answer-ok _ (c .before .before .standard .ensures) (c .enum-told .given .1)) in
     (omega (arith, r .sound-meta .info), r .whole)
 
 accepted-requires : tie.Need-accepted-requires
@@ -29,16 +28,16 @@ refused-requires : tie.Need-refused-requires
 refused-requires c κs = search needs
 
 returns : tie.Need-returns
-unfolding spec.expiryIn path.onStandard path.carriedOut
+unfolding spec.expiryIn spec.expiryFound
 returns c = (
-  rw (← c .before .before .before .before .standard .ensures, c .before .before .enum-told .given .1, ← c .before .path-expiry .ensures .0) (c .accepted .ensures),
+  rw (answer-ok _ (c .before .before .before .before .standard .ensures) (c .before .before .enum-told .given .1), ← c .before .path-expiry .ensures .0) (c .accepted .ensures),
   rw (c .accepted .ensures) (c .before .path-expiry .ensures .1),
 )
 
 returns-2 : tie.Need-returns-2
-unfolding spec.expiryIn spec.noExpiry path.onStandard path.carriedOut
+unfolding spec.expiryIn spec.expiryFound
 returns-2 c = (
-  rw (← c .before .before .before .before .standard .ensures, c .before .before .answer .given .1) (c .refused .ensures),
+  rw (answer-refused _ (c .before .before .before .before .standard .ensures) (c .before .before .answer .given .1)) (c .refused .ensures),
   rw (c .refused .ensures) (omega arith),
 )
 

@@ -1,7 +1,8 @@
 -- `locate` meets its contract: the order of calls on standard paths, then the two counts.
 use native.Mathlib.Nat.{add-zero}
 use Rattle.path_hop_fields.specs.PathRuns as spec
-use Rattle.path.specs.Dataplane.{onStandard, carriedOut}
+use Rattle.path.specs.Dataplane.{located}
+use Rattle.path.proofs.Reading.{answer-ok, answer-refused}
 use borrow.Author.Needs.{needs}
 use Rattle.path_hop_fields.proofs.locate.Statement.{statement}
 use Rattle.path_hop_fields.proofs.locate.Tie as tie
@@ -37,12 +38,12 @@ refused-requires : tie.Need-refused-requires
 refused-requires c κs = search needs
 
 returns : tie.Need-returns
-unfolding spec.located onStandard carriedOut
-returns c = rw (← c .before .before .before .before .before .before .before .standard .ensures, c .before .before .before .enum-told .given .1, ← c .before .before .info-fields-count .ensures .0, ← c .before .hop-fields-count .ensures .0, add-zero) (c .accepted .ensures)
+unfolding spec.hopFieldsIn located
+returns c = rw (answer-ok _ (c .before .before .before .before .before .before .before .standard .ensures) (c .before .before .before .enum-told .given .1), ← c .before .before .info-fields-count .ensures .0, ← c .before .hop-fields-count .ensures .0, add-zero) (c .accepted .ensures)
 
 returns-2 : tie.Need-returns-2
-unfolding spec.located onStandard carriedOut
-returns-2 c = rw (← c .before .before .before .before .before .before .standard .ensures, c .before .before .answer .given .1) (c .refused .ensures)
+unfolding spec.hopFieldsIn
+returns-2 c = rw (answer-refused _ (c .before .before .before .before .before .before .standard .ensures) (c .before .before .answer .given .1)) (c .refused .ensures)
 
 pub locate-spec : {M : Type 1} → statement M
 locate-spec =

@@ -1,9 +1,9 @@
 -- `interface_of` meets its contract: the hop field of the interface, which is there, or none.
-use mathlib.Core.Path.{_≡_, sym, _∙_}
+use mathlib.Core.Path.{_≡_, sym, ap, _∙_}
 use native.Mathlib.Omega.{arith}
-use Rattle.path_meta_header.specs.MetaHeader.{pathLength, hopFieldOf}
-use Rattle.path_meta_header.specs.declared.HopFieldOf.the-variants.{Index}
-use Rattle.path_interfaces.specs.Interfaces.{interfaceFound}
+use Rattle.path_meta_header.specs.MetaHeader.{pathLength, hopFieldOf, hopFieldFound}
+use Rattle.wire_encoding.specs.Result.{ok}
+use Rattle.path_interfaces.specs.Interfaces.{interfaceOf, interfaceFound}
 use Rattle.path.proofs.Links.{segment-below}
 use Rattle.path_interfaces.proofs.InterfaceLaws.{link-below}
 use borrow.Author.Needs.{needs}
@@ -22,7 +22,7 @@ interface-at-requires c κs =
     let start = c .before .before .before .before .before in
     let m = start .args .path .«meta_header» in
     let valid = start .pre .0 in
-    let found : hopFieldOf m (start .args .index) ≡ Index _ = sym (c .before .before .before .hop-field-index-for-interface .ensures) ∙ c .before .hop .given .1 in
+    let found : hopFieldOf m (start .args .index) ≡ ok _ = sym (c .before .before .before .hop-field-index-for-interface .ensures) ∙ ap hopFieldFound (c .before .hop .given .1) in
     let below = link-below m valid _ found in
     record { hop-inside = omega (arith, below, start .pre .1); segment-inside = segment-below m valid _ below }
 
@@ -36,11 +36,11 @@ refused-requires : tie.Need-refused-requires
 refused-requires c κs = search needs
 
 returns : tie.Need-returns
-unfolding interfaceFound
+unfolding interfaceOf interfaceFound
 returns c = rw (← c .before .before .before .before .before .hop-field-index-for-interface .ensures, c .before .before .before .hop .given .1, ← c .before .interface-at .ensures) (c .accepted .ensures)
 
 returns-2 : tie.Need-returns-2
-unfolding interfaceFound
+unfolding interfaceOf interfaceFound
 returns-2 c = rw (← c .before .before .before .hop-field-index-for-interface .ensures, c .before .enum-told .given .1) (c .refused .ensures)
 
 pub interface-of-spec : {M : Type 1} → statement M

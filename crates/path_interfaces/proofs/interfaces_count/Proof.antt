@@ -1,5 +1,5 @@
 -- `interfaces_count` meets its contract: the order of calls on standard paths, then the count.
-use Rattle.path.specs.Dataplane as path
+use Rattle.path.proofs.Reading.{answer-ok, answer-refused}
 use Rattle.path_interfaces.specs.Interfaces as spec
 use borrow.Author.Needs.{needs}
 use Rattle.path_interfaces.proofs.interfaces_count.Statement.{statement}
@@ -21,12 +21,12 @@ refused-requires : tie.Need-refused-requires
 refused-requires c κs = search needs
 
 returns : tie.Need-returns
-unfolding spec.interfacesIn path.onStandard path.carriedOut
-returns c = rw (← c .before .before .before .standard .ensures, c .before .enum-told .given .1) (c .of .ensures)
+unfolding spec.interfacesIn spec.interfaceCount
+returns c = rw (answer-ok _ (c .before .before .before .standard .ensures) (c .before .enum-told .given .1)) (c .of .ensures)
 
 returns-2 : tie.Need-returns-2
-unfolding spec.interfacesIn path.onStandard path.carriedOut
-returns-2 c = rw (← c .before .before .before .before .standard .ensures, c .before .before .answer .given .1) (c .refused .ensures)
+unfolding spec.interfacesIn
+returns-2 c = rw (answer-refused _ (c .before .before .before .before .standard .ensures) (c .before .before .answer .given .1)) (c .refused .ensures)
 
 pub interfaces-count-spec : {M : Type 1} → statement M
 interfaces-count-spec =

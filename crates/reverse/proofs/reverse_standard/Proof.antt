@@ -1,7 +1,7 @@
 -- `reverse_standard` meets its contract: by what reading finds.
-use mathlib.Core.Path.{sym, ap, _∙_}
-use Rattle.path_error.specs.declared.Decoded.{Decoded}
-use Rattle.reverse.proofs.Laws.{not-read}
+use mathlib.Core.Path.{refl}
+use Rattle.path.proofs.Reading.{path-ok, path-refused}
+use Rattle.reverse.specs.Reverse.{reverse}
 use borrow.Author.Needs.{needs}
 use Rattle.reverse.proofs.reverse_standard.Statement.{statement}
 use Rattle.reverse.proofs.reverse_standard.Tie as tie
@@ -13,9 +13,7 @@ enum-told : tie.Need-enum-told
 enum-told c = search needs
 
 reverse-path-requires : tie.Need-reverse-path-requires
-reverse-path-requires c κs =
-    let read = c .before .before .before .decode in
-    sym (read .ensures) ∙ ap (λ (answer : Decoded). record { answer = answer; path = read .result .path }) (c .before .enum-told .given .1)
+reverse-path-requires c κs = path-ok _ (c .before .before .before .decode .ensures) (c .before .enum-told .given .1)
 
 enum-known-answer : tie.Need-enum-known-answer
 enum-known-answer c = search needs
@@ -27,12 +25,12 @@ same-length : tie.Need-same-length
 same-length c = search needs
 
 returns : tie.Need-returns
-returns c = c .before .before .reverse-path .ensures
+unfolding reverse
+returns c = rw (path-ok _ (c .before .before .before .before .before .before .decode .ensures) (c .before .before .before .before .enum-told .given .1)) (c .before .before .reverse-path .ensures)
 
 returns-2 : tie.Need-returns-2
-returns-2 c =
-    let a = c .before .before .before .before .before .before .before .args in
-    rw (c .not-read .ensures) (not-read (a .bytes .now) (a .dst .now) (c .before .before .before .before .decode .ensures) (c .before .before .answer .given .1))
+unfolding reverse
+returns-2 c = rw (path-refused _ (c .before .before .before .before .decode .ensures) (c .before .before .answer .given .1)) (c .not-read .ensures, refl)
 
 pub reverse-standard-spec : {M : Type 1} → statement M
 reverse-standard-spec =

@@ -1,6 +1,6 @@
 -- `reverse_to_slice` meets its contract: a path of type 1 is reversed, any other copied.
-use mathlib.Core.Path.{_∙_}
-use Rattle.reverse.proofs.Laws.{as-copied}
+use borrow.Author.Tests.{ne-eqb}
+use Rattle.reverse.specs.Reverse.{reverse}
 use borrow.Author.Needs.{needs}
 use Rattle.reverse.proofs.reverse_to_slice.Statement.{statement}
 use Rattle.reverse.proofs.reverse_to_slice.Tie as tie
@@ -24,11 +24,8 @@ same-length-2 : tie.Need-same-length-2
 same-length-2 c = search needs
 
 returns-2 : tie.Need-returns-2
-returns-2 c =
-    let a = c .before .before .before .before .before .before .before .before .args in
-    let answer = as-copied (a .path-type) (a .bytes .now) (a .dst .now) (c .before .before .before .before .before .if1 .left) in
-    let called = rw (c .before .before .before .before .new .ensures) at (c .before .before .copy-to-slice .ensures) in
-    (called .0 ∙ answer .0, called .1 ∙ answer .1)
+unfolding reverse
+returns-2 c = rw (ne-eqb _ _ (c .before .before .before .before .before .if1 .left), ← c .before .before .before .before .new .ensures) (c .before .before .copy-to-slice .ensures)
 
 pub reverse-to-slice-spec : {M : Type 1} → statement M
 reverse-to-slice-spec =

@@ -1,6 +1,6 @@
 -- `host_in` meets its contract: the same tests of the kind.
 use borrow.Author.Tests.{eq-eqb, ne-eqb}
-use Rattle.address_header.specs.AddressHeader.{hostOfKind}
+use Rattle.packet_address_header.specs.AddressHeader.{hostOfKind}
 use Rattle.scion_packets.specs.Packets.{hostIn}
 use Rattle.scion_packets.proofs.host_in.Statement.{statement}
 use Rattle.scion_packets.proofs.host_in.Tie as tie

@@ -2,9 +2,11 @@
 use mathlib.Core.Path.{_≡_, sym, _∙_}
 use mathlib.Core.Bool.{true}
 use lib.Dec.{eqb}
-use borrow.Author.Tests.{lt-ltb, le-ltb, eq-eqb, ne-eqb, not-true, not-false}
-use Rattle.common_header_encoding.specs.Encoding.{commonFits}
-use Rattle.headers.specs.Headers.{encoding, commonOf, headersLength}
+use lib.ListN.{length}
+use borrow.Author.Tests.{lt-leb, le-leb, eq-eqb, ne-eqb, not-true, not-false}
+use Rattle.path_error.specs.Errors.{encodedOf}
+use Rattle.packet_common_header.specs.CommonHeader.{commonFits}
+use Rattle.headers.specs.Headers.{writeHeaders, commonOf, headersLength}
 use Rattle.headers.proofs.WritingLaws.{fits-kinds, length-on-wire}
 use borrow.Author.Needs.{needs}
 use Rattle.headers.proofs.ScionHeaders.check.Statement.{statement}
@@ -14,27 +16,27 @@ fields-fit-requires : tie.Need-fields-fit-requires
 fields-fit-requires c κs = search needs
 
 -- what the first test finds
-fits : (c : tie.After-fields-fit) → commonFits (commonOf (c .before .args .self)) ≡ c .fields-fit .result
-fits c = sym (c .fields-fit .ensures ∙ fits-kinds (c .before .args .self) (c .before .args .wire) (c .before .pre))
+fits : (c : tie.After-fields-fit) → commonFits (commonOf (c .before .before .args .self)) ≡ c .fields-fit .result
+fits c = sym (c .fields-fit .ensures ∙ fits-kinds (c .before .before .args .self) (c .before .before .args .wire) (c .before .before .pre))
 
-fit : (c : tie.Else1) → commonFits (commonOf (c .before .before .args .self)) ≡ true
+fit : (c : tie.Else1) → commonFits (commonOf (c .before .before .before .args .self)) ≡ true
 fit c = fits (c .before) ∙ not-false (c .before .fields-fit .result) (c .if1 .left)
 
 returns : tie.Need-returns
-unfolding encoding
+unfolding writeHeaders encodedOf
 returns c = rw (fits (c .before), not-true (c .before .fields-fit .result) (c .if1 .taken))
 
 returns-2 : tie.Need-returns-2
-unfolding encoding
+unfolding writeHeaders encodedOf
 returns-2 c = rw (fit (c .before .before), eq-eqb _ _ (c .if2 .taken))
 
 returns-3 : tie.Need-returns-3
-unfolding encoding
-returns-3 c = rw (fit (c .before .before .before .before), ne-eqb _ _ (c .before .before .if2 .left), lt-ltb _ _ (c .if3 .taken))
+unfolding writeHeaders encodedOf
+returns-3 c = rw (fit (c .before .before .before .before), ne-eqb _ _ (c .before .before .if2 .left), lt-leb _ _ (c .if3 .taken))
 
 returns-4 : tie.Need-returns-4
-unfolding encoding
-returns-4 c = rw (fit (c .before .before .before .before .before .before), ne-eqb _ _ (c .before .before .before .before .if2 .left), le-ltb _ _ (c .before .before .if3 .left), lt-ltb _ _ (c .if4 .taken))
+unfolding writeHeaders encodedOf
+returns-4 c = rw (fit (c .before .before .before .before .before .before), ne-eqb _ _ (c .before .before .before .before .if2 .left), le-leb _ _ (c .before .before .if3 .left), lt-leb _ _ (c .if4 .taken))
 
 encoded-length-requires : tie.Need-encoded-length-requires
 encoded-length-requires c κs = search needs
@@ -49,25 +51,25 @@ fills-requires : tie.Need-fills-requires
 fills-requires c κs = search needs
 
 -- the size is tested against the length of all
-exact : (c : tie.After-fills) → let args = c .before .before .before .before .before .before .before .before .before .before .before .args in
-    eqb (args .size) (headersLength (args .self .address) (args .self .«path_type») (args .path-len)) ≡ c .fills .result
+exact : (c : tie.After-fills) → let args = c .before .before .before .before .before .before .before .before .before .before .before .before .args in
+    eqb (args .size) (headersLength (args .self .address) (args .self .«path_type») (length (args .path .now))) ≡ c .fills .result
 unfolding headersLength
 exact c =
-    let start = c .before .before .before .before .before .before .before .before .before .before .before in
+    let start = c .before .before .before .before .before .before .before .before .before .before .before .before in
     let long = c .before .before .encoded-length .ensures .0 ∙ length-on-wire (start .args .self) (start .args .wire) (start .pre) in
     sym (c .fills .ensures ∙ rw (long, c .before .path-length .ensures))
 
 returns-5 : tie.Need-returns-5
-unfolding encoding
+unfolding writeHeaders encodedOf
 returns-5 c =
     let s = c .before .before .before .before in
-    rw (fit (s .before .before .before .before .before .before), ne-eqb _ _ (s .before .before .before .before .if2 .left), le-ltb _ _ (s .before .before .if3 .left), le-ltb _ _ (s .if4 .left), exact (c .before), c .if5 .taken)
+    rw (fit (s .before .before .before .before .before .before), ne-eqb _ _ (s .before .before .before .before .if2 .left), le-leb _ _ (s .before .before .if3 .left), le-leb _ _ (s .if4 .left), exact (c .before), c .if5 .taken)
 
 returns-6 : tie.Need-returns-6
-unfolding encoding
+unfolding writeHeaders encodedOf
 returns-6 c =
     let s = c .before .before .before .before in
-    rw (fit (s .before .before .before .before .before .before), ne-eqb _ _ (s .before .before .before .before .if2 .left), le-ltb _ _ (s .before .before .if3 .left), le-ltb _ _ (s .if4 .left), exact (c .before), c .if5 .left)
+    rw (fit (s .before .before .before .before .before .before), ne-eqb _ _ (s .before .before .before .before .if2 .left), le-leb _ _ (s .before .before .if3 .left), le-leb _ _ (s .if4 .left), exact (c .before), c .if5 .left)
 
 pub check-spec : {M : Type 1} → statement M
 check-spec =

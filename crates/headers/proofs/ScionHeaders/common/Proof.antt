@@ -1,5 +1,5 @@
 -- `ScionHeaders::common` meets its contract: factor and payload length fit, so nothing is cut off.
-use Rattle.address_header_encoding.specs.Encoding.{hostOnWire, onWire}
+use Rattle.packet_address_header.specs.AddressHeader.{hostOnWire, onWire}
 use Rattle.headers.specs.Headers.{commonOf}
 use borrow.Author.Needs.{needs}
 use Rattle.headers.proofs.ScionHeaders.common.Statement.{statement}

@@ -1,7 +1,8 @@
 -- `ScionHeaders::put` meets its contract: the three parts follow one another and fill the destination.
 use native.Mathlib.Omega.{arith}
 use lib.ListN.{length}
-use Rattle.address_header_encoding.proofs.EncodingLaws.{Sixteen}
+use Rattle.path_error.proofs.Told.{encoded-ok}
+use Rattle.packet_address_header.proofs.WritingLaws.{Sixteen}
 use Rattle.headers.specs.Headers.{headersLength}
 use Rattle.headers.proofs.WritingLaws.{Known, known, narrow, common-writes, added-few, three-written}
 use borrow.Author.Needs.{needs}
@@ -9,8 +10,8 @@ use Rattle.headers.proofs.ScionHeaders.put.Statement.{statement}
 use Rattle.headers.proofs.ScionHeaders.put.Tie as tie
 
 -- what the tests found
-tests : (c : tie.Start) → Known (c .args .self) (length (c .args .path .now)) (length (c .args .dst .now))
-tests c = known (c .args .self) _ _ (c .pre .0 .done)
+tests : (c : tie.Start) → Known (c .args .self) (c .args .path .now) (length (c .args .dst .now))
+tests c = known (c .args .self) _ _ (encoded-ok _ (c .pre .0) .is)
 
 common-requires : tie.Need-common-requires
 common-requires c κs = (narrow _ _ _ (tests (c .before .before)), c .before .before .pre .1)

@@ -5,11 +5,11 @@ use Rattle.hop_fields.proofs.run.check.Statement.{statement}
 use Rattle.hop_fields.proofs.run.check.Tie as tie
 
 returns : tie.Need-returns
-unfolding spec.answer
+unfolding spec.runOf
 returns c = rw (eq-eqb _ _ (c .if1 .taken))
 
 returns-2 : tie.Need-returns-2
-unfolding spec.answer
+unfolding spec.runOf
 returns-2 c = rw (ne-eqb _ _ (c .if1 .left))
 
 pub check-spec : {M : Type 1} → statement M

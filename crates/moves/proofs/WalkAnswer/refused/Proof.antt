@@ -1,5 +1,5 @@
 -- `WalkAnswer::refused` meets its contract: the error beside zeros.
-use Rattle.moves.specs.Moves.{noWalk}
+use Rattle.moves.specs.Moves.{walkAnswer}
 use borrow.Author.Needs.{needs}
 use Rattle.moves.proofs.WalkAnswer.refused.Statement.{statement}
 use Rattle.moves.proofs.WalkAnswer.refused.Tie as tie
@@ -8,7 +8,7 @@ zero-requires : tie.Need-zero-requires
 zero-requires c κs = search needs
 
 returns : tie.Need-returns
-unfolding noWalk
+unfolding walkAnswer
 returns c = rw (c .zero .ensures)
 
 pub refused-spec : {M : Type 1} → statement M

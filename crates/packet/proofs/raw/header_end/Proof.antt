@@ -1,6 +1,5 @@
 -- `header_end` meets its contract: the lesser of the two.
 use native.Mathlib.Omega.{arith}
-use Rattle.packet.specs.Raw.{headerEnd}
 use borrow.Author.Needs.{needs}
 use Rattle.packet.proofs.raw.header_end.Statement.{statement}
 use Rattle.packet.proofs.raw.header_end.Tie as tie
@@ -9,11 +8,9 @@ header-length-requires : tie.Need-header-length-requires
 header-length-requires c κs = search needs
 
 returns : tie.Need-returns
-unfolding headerEnd
 returns c = (omega (arith, c .before .header-length .ensures .0, c .if1 .taken), omega (arith, c .if1 .taken))
 
 returns-2 : tie.Need-returns-2
-unfolding headerEnd
 returns-2 c = (omega (arith, c .before .header-length .ensures .0, c .if1 .left), omega arith)
 
 pub header-end-spec : {M : Type 1} → statement M

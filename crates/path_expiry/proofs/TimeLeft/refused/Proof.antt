@@ -8,7 +8,7 @@ zero-requires : tie.Need-zero-requires
 zero-requires c κs = search needs
 
 returns : tie.Need-returns
-unfolding spec.noTimeLeft
+unfolding spec.timeLeftFound
 returns c = rw (c .zero .ensures)
 
 pub refused-spec : {M : Type 1} → statement M

@@ -1,5 +1,6 @@
 -- `decode` meets its contract: the word that is read, and then its rules.
-use Rattle.path_meta_header.specs.MetaHeader as spec
+use Rattle.wire_encoding.proofs.Numbers.{was-read, was-truncated}
+use Rattle.path_meta_header.specs.MetaHeader.{readMeta}
 use borrow.Author.Needs.{needs}
 use Rattle.path_meta_header.proofs.PathMetaHeader.decode.Statement.{statement}
 use Rattle.path_meta_header.proofs.PathMetaHeader.decode.Tie as tie
@@ -16,33 +17,21 @@ from-u32-requires c κs = search needs
 check-requires : tie.Need-check-requires
 check-requires c κs = search needs
 
-new-requires : tie.Need-new-requires
-new-requires c κs = search needs
-
 enum-told : tie.Need-enum-told
 enum-told c = search needs
 
-from-u32-requires-2 : tie.Need-from-u32-requires-2
-from-u32-requires-2 c κs = search needs
-
-new-requires-2 : tie.Need-new-requires-2
-new-requires-2 c κs = search needs
+refused-requires : tie.Need-refused-requires
+refused-requires c κs = search needs
 
 returns : tie.Need-returns
-unfolding spec.readMeta spec.metaRead
+unfolding readMeta
 returns c =
-    rw (
-      ← c .before .before .before .before .before .before .get-u32 .ensures,
-      c .before .before .before .before .fields .given .1,
-      ← c .before .before .from-u32 .ensures,
-      ← c .before .check .ensures,
-    )
-    (c .new .ensures)
+    let word = was-read 4 _ 0 (rw (c .before .before .before .fields .given .1) at (c .before .before .before .before .before .get-u32 .ensures)) in
+    rw (word .0, ← word .1, ← c .before .from-u32 .ensures) (c .check .ensures)
 
 returns-2 : tie.Need-returns-2
-unfolding spec.readMeta spec.metaRead
-returns-2 c =
-    rw (← c .before .before .before .before .get-u32 .ensures, c .before .before .enum-told .given .1, ← c .before .from-u322 .ensures) (c .new2 .ensures)
+unfolding readMeta
+returns-2 c = rw (was-truncated 4 _ 0 (rw (c .before .enum-told .given .1) at (c .before .before .before .get-u32 .ensures))) (c .refused .ensures)
 
 pub decode-spec : {M : Type 1} → statement M
 decode-spec =
@@ -52,9 +41,7 @@ decode-spec =
     enum-known-fields
     from-u32-requires
     check-requires
-    new-requires
     enum-told
-    from-u32-requires-2
-    new-requires-2
+    refused-requires
     returns
     returns-2)

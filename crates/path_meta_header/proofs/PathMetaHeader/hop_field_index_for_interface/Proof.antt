@@ -1,6 +1,6 @@
 -- `hop_field_index_for_interface` meets its contract: the test on the count, then the link and its segment.
 use native.Mathlib.Omega.{arith}
-use borrow.Author.Tests.{le-leb, lt-leb}
+use borrow.Author.Tests.{le-ltb, lt-ltb}
 use Prim.Native.Nat.{_<_, _≤_}
 use Rattle.path_meta_header.specs.MetaHeader as spec
 use borrow.Author.Needs.{needs}
@@ -15,7 +15,7 @@ unfolding spec.hopFieldOf
 returns c =
     let a = c .before .before .args in
     let outside : spec.interfacesCount (a .self) ≤ a .index = omega arith in
-    rw (le-leb _ _ outside)
+    rw (le-ltb _ _ outside)
 
 add-t6 : tie.Need-add-t6
 add-t6 c = search needs
@@ -31,7 +31,7 @@ unfolding spec.hopFieldOf
 returns-2 c =
     let a = c .before .before .before .args in
     let inside : a .index < spec.interfacesCount (a .self) = omega arith in
-    rw (lt-leb _ _ inside, c .segment-of-link .ensures .0)
+    rw (lt-ltb _ _ inside, c .segment-of-link .ensures .0)
 
 pub hop-field-index-for-interface-spec : {M : Type 1} → statement M
 hop-field-index-for-interface-spec =

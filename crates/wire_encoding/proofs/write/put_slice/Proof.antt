@@ -4,7 +4,7 @@ use Prim.Native.Nat.{_+_, _≤_}
 use lib.ListN.{length}
 use borrow.Author.Needs.{needs}
 use borrow.Author.Tests.{leb-true, leb-false}
-use Rattle.wire_encoding.proofs.Writes.{done, refused}
+use Rattle.wire_encoding.proofs.Writes.{done, no-room}
 use Rattle.wire_encoding.proofs.write.put_slice.Statement.{statement}
 use Rattle.wire_encoding.proofs.write.put_slice.Tie as tie
 
@@ -22,11 +22,14 @@ same-length c = search needs
 
 returns : tie.Need-returns
 returns c =
-    done _ _ _ _ refl (leb-true _ _ (sym (c .before .before .before .before .before .has-room .ensures) ∙ c .before .before .before .before .if1 .taken))
-    (c .before .before .write-bytes .ensures)
+    let a = c .before .before .before .before .before .before .before .before .args in
+    rw (done (a .dst .now) (a .at) (a .src .now) _ refl (leb-true _ _ (sym (c .before .before .before .before .before .has-room .ensures) ∙ c .before .before .before .before .if1 .taken)))
+    (refl, c .before .before .write-bytes .ensures)
 
 returns-2 : tie.Need-returns-2
-returns-2 c = refused _ _ _ _ refl (leb-false _ _ (sym (c .before .has-room .ensures) ∙ c .if1 .left))
+returns-2 c =
+    let a = c .before .before .before .before .args in
+    rw (no-room (a .dst .now) (a .at) (a .src .now) _ refl (leb-false _ _ (sym (c .before .has-room .ensures) ∙ c .if1 .left))) (refl, refl)
 
 pub put-slice-spec : {M : Type 1} → statement M
 put-slice-spec = tie.close (tie.spec has-room-requires write-bytes-requires same-length returns returns-2)

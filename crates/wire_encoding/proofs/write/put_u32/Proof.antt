@@ -1,11 +1,11 @@
 -- `put_u32` meets its contract: the laws of a written run, at the 4 bytes of the number.
-use mathlib.Core.Path.{sym, _∙_}
+use mathlib.Core.Path.{refl, sym, _∙_}
 use Prim.Native.Nat.{_+_, _≤_}
 use lib.ListN.{length}
 use borrow.Author.Needs.{needs}
 use borrow.Author.Tests.{leb-true, leb-false}
 use Rattle.wire_encoding.proofs.Numbers.{length-bytesOf}
-use Rattle.wire_encoding.proofs.Writes.{done, refused}
+use Rattle.wire_encoding.proofs.Writes.{done, no-room}
 use Rattle.wire_encoding.proofs.write.put_u32.Statement.{statement}
 use Rattle.wire_encoding.proofs.write.put_u32.Tie as tie
 
@@ -23,11 +23,11 @@ same-length c = search needs
 
 returns : tie.Need-returns
 returns c =
-    done _ _ _ 4 (length-bytesOf 4 _) (leb-true _ _ (sym (c .before .before .before .before .before .has-room .ensures) ∙ c .before .before .before .before .if1 .taken))
-    (c .before .before .write-big-endian .ensures)
+    rw (done _ _ _ 4 (length-bytesOf 4 _) (leb-true _ _ (sym (c .before .before .before .before .before .has-room .ensures) ∙ c .before .before .before .before .if1 .taken)))
+    (refl, c .before .before .write-big-endian .ensures)
 
 returns-2 : tie.Need-returns-2
-returns-2 c = refused _ _ _ 4 (length-bytesOf 4 _) (leb-false _ _ (sym (c .before .has-room .ensures) ∙ c .if1 .left))
+returns-2 c = rw (no-room _ _ _ 4 (length-bytesOf 4 _) (leb-false _ _ (sym (c .before .has-room .ensures) ∙ c .if1 .left))) (refl, refl)
 
 pub put-u32-spec : {M : Type 1} → statement M
 put-u32-spec = tie.close (tie.spec has-room-requires write-big-endian-requires same-length returns returns-2)

@@ -12,15 +12,12 @@ returns : tie.Need-returns
 unfolding spec.readDataplane
 returns c = rw (eq-eqb _ _ (c .before .if1 .taken)) (c .unread .ensures)
 
-decode-requires : tie.Need-decode-requires
-decode-requires c κs = search needs
-
 standard-requires : tie.Need-standard-requires
 standard-requires c κs = search needs
 
 returns-2 : tie.Need-returns-2
 unfolding spec.readDataplane
-returns-2 c = rw (ne-eqb _ _ (c .before .before .before .before .if1 .left), eq-eqb _ _ (c .before .before .if2 .taken), ← c .before .decode .ensures) (c .standard .ensures)
+returns-2 c = rw (ne-eqb _ _ (c .before .before .before .if1 .left), eq-eqb _ _ (c .before .if2 .taken)) (c .standard .ensures)
 
 unread-requires-2 : tie.Need-unread-requires-2
 unread-requires-2 c κs = search needs
@@ -35,7 +32,6 @@ decode-spec =
     (tie.spec
     unread-requires
     returns
-    decode-requires
     standard-requires
     returns-2
     unread-requires-2

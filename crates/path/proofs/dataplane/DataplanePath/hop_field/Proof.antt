@@ -10,7 +10,7 @@ locate-hop-field-requires : tie.Need-locate-hop-field-requires
 locate-hop-field-requires c κs = search needs
 
 add-end : tie.Need-add-end
-add-end c = let a = c .before .before .before .before .args in omega (arith, rw (← c .before .before .locate-hop-field .ensures) at (hop-inside (a .bytes .now) (a .self .«path_type») (a .index)) .inside)
+add-end c = let a = c .before .before .before .before .args in omega (arith, rw (← c .before .before .locate-hop-field .ensures) at (hop-inside (a .bytes .now) (a .self .«path_type») (a .index)))
 
 sub-result : tie.Need-sub-result
 sub-result c = search needs
@@ -19,7 +19,7 @@ part-result-start : tie.Need-part-result-start
 part-result-start c = search needs
 
 part-result-end : tie.Need-part-result-end
-part-result-end c = let a = c .before .before .before .before .args in omega (arith, rw (← c .before .before .locate-hop-field .ensures) at (hop-inside (a .bytes .now) (a .self .«path_type») (a .index)) .inside)
+part-result-end c = let a = c .before .before .before .before .args in omega (arith, rw (← c .before .before .locate-hop-field .ensures) at (hop-inside (a .bytes .now) (a .self .«path_type») (a .index)))
 
 returns : tie.Need-returns
 returns c = rw (add-sub-cancel-left, c .before .before .before .locate-hop-field .ensures)

@@ -1,5 +1,6 @@
 -- `locate_hop_field` meets its contract: the order of calls on standard paths, then the offset.
 use Rattle.path.specs.Dataplane as spec
+use Rattle.path.proofs.Reading.{answer-ok, answer-refused}
 use borrow.Author.Needs.{needs}
 use Rattle.path.proofs.dataplane.DataplanePath.locate_hop_field.Statement.{statement}
 use Rattle.path.proofs.dataplane.DataplanePath.locate_hop_field.Tie as tie
@@ -23,12 +24,12 @@ refused-requires : tie.Need-refused-requires
 refused-requires c κs = search needs
 
 returns : tie.Need-returns
-unfolding spec.hopFieldIn spec.onStandard spec.carriedOut
-returns c = rw (← c .before .before .before .before .standard .ensures, c .before .before .enum-told .given .1, ← c .before .hop-field-offset .ensures) (c .at .ensures)
+unfolding spec.hopFieldIn
+returns c = rw (answer-ok _ (c .before .before .before .before .standard .ensures) (c .before .before .enum-told .given .1), ← c .before .hop-field-offset .ensures) (c .at .ensures)
 
 returns-2 : tie.Need-returns-2
-unfolding spec.hopFieldIn spec.onStandard spec.carriedOut
-returns-2 c = rw (← c .before .before .before .before .standard .ensures, c .before .before .answer .given .1) (c .refused .ensures)
+unfolding spec.hopFieldIn
+returns-2 c = rw (answer-refused _ (c .before .before .before .before .standard .ensures) (c .before .before .answer .given .1)) (c .refused .ensures)
 
 pub locate-hop-field-spec : {M : Type 1} → statement M
 locate-hop-field-spec =

@@ -1,5 +1,6 @@
 -- `segment` meets its contract: the order of calls on standard paths, then segment k.
 use Rattle.path.specs.Dataplane as spec
+use Rattle.path.proofs.Reading.{answer-ok, answer-refused}
 use borrow.Author.Needs.{needs}
 use Rattle.path.proofs.dataplane.DataplanePath.segment.Statement.{statement}
 use Rattle.path.proofs.dataplane.DataplanePath.segment.Tie as tie
@@ -20,12 +21,12 @@ refused-requires : tie.Need-refused-requires
 refused-requires c κs = search needs
 
 returns : tie.Need-returns
-unfolding spec.segmentIn spec.onStandard spec.carriedOut
-returns c = rw (← c .before .before .before .standard .ensures, c .before .enum-told .given .1) (c .of .ensures)
+unfolding spec.segmentIn
+returns c = rw (answer-ok _ (c .before .before .before .standard .ensures) (c .before .enum-told .given .1)) (c .of .ensures)
 
 returns-2 : tie.Need-returns-2
-unfolding spec.segmentIn spec.onStandard spec.carriedOut
-returns-2 c = rw (← c .before .before .before .before .standard .ensures, c .before .before .answer .given .1) (c .refused .ensures)
+unfolding spec.segmentIn
+returns-2 c = rw (answer-refused _ (c .before .before .before .before .standard .ensures) (c .before .before .answer .given .1)) (c .refused .ensures)
 
 pub segment-spec : {M : Type 1} → statement M
 segment-spec =

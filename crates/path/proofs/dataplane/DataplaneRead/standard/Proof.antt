@@ -1,24 +1,40 @@
--- `DataplaneRead::standard` meets its contract: the answer and the record stay, the length is the path's.
-use mathlib.Core.Path.{_≡_, refl}
-use Rattle.path_error.specs.declared.Decoded.{Decoded}
-use Rattle.path_error.specs.declared.Decoded.the-variants.{Accepted, Refused}
-use Rattle.path.specs.declared.standard.StandardPath.{StandardPath}
-use Rattle.path.specs.Dataplane.{standardRead}
+-- `DataplaneRead::standard` meets its contract: what reading finds, and the length that the header says.
+use Rattle.path.proofs.Reading.{path-ok, path-refused}
 use borrow.Author.Needs.{needs}
+use Rattle.path.specs.Dataplane.{dataplaneRead}
 use Rattle.path.proofs.dataplane.DataplaneRead.standard.Statement.{statement}
 use Rattle.path.proofs.dataplane.DataplaneRead.standard.Tie as tie
 
-length-requires : tie.Need-length-requires
-length-requires c κs = search needs
+decode-requires : tie.Need-decode-requires
+decode-requires c κs = search needs
 
-stays : (answer : Decoded) (path : StandardPath)
-    → record { answer = answer; path = path; length = standardRead answer path .length } ≡ standardRead answer path
-unfolding standardRead
-stays Accepted path = refl
-stays (Refused error) path = refl
+enum-told : tie.Need-enum-told
+enum-told c = search needs
+
+encoded-path-length-requires : tie.Need-encoded-path-length-requires
+encoded-path-length-requires c κs = search needs
+
+enum-known-answer : tie.Need-enum-known-answer
+enum-known-answer c = search needs
+
+refused-requires : tie.Need-refused-requires
+refused-requires c κs = search needs
 
 returns : tie.Need-returns
-returns c = rw (c .before .length .ensures) (stays _ _)
+unfolding dataplaneRead
+returns c = rw (path-ok _ (c .before .before .before .before .decode .ensures) (c .before .before .enum-told .given .1), c .encoded-path-length .ensures .0)
+
+returns-2 : tie.Need-returns-2
+returns-2 c = rw (path-refused _ (c .before .before .before .before .decode .ensures) (c .before .before .answer .given .1)) (c .refused .ensures)
 
 pub standard-spec : {M : Type 1} → statement M
-standard-spec = tie.close (tie.spec length-requires returns)
+standard-spec =
+    tie.close
+    (tie.spec
+    decode-requires
+    enum-told
+    encoded-path-length-requires
+    enum-known-answer
+    refused-requires
+    returns
+    returns-2)

@@ -1,6 +1,6 @@
 -- `DataplaneRead::unread` meets its contract: a path of that many bytes beside a record of zeros.
-use Rattle.path.specs.Dataplane as spec
 use borrow.Author.Needs.{needs}
+use Rattle.path.specs.Dataplane.{dataplaneRead}
 use Rattle.path.proofs.dataplane.DataplaneRead.unread.Statement.{statement}
 use Rattle.path.proofs.dataplane.DataplaneRead.unread.Tie as tie
 
@@ -8,7 +8,7 @@ zero-requires : tie.Need-zero-requires
 zero-requires c κs = search needs
 
 returns : tie.Need-returns
-unfolding spec.unread
+unfolding dataplaneRead
 returns c = rw (c .zero .ensures)
 
 pub unread-spec : {M : Type 1} → statement M

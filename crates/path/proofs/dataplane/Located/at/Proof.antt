@@ -1,6 +1,6 @@
 -- `Located::at` meets its contract: by the two cases of the offset.
-use Rattle.path.specs.Dataplane as spec
 use borrow.Author.Needs.{needs}
+use Rattle.path.specs.Dataplane.{located}
 use Rattle.path.proofs.dataplane.Located.at.Statement.{statement}
 use Rattle.path.proofs.dataplane.Located.at.Tie as tie
 
@@ -17,11 +17,11 @@ accepted-requires : tie.Need-accepted-requires
 accepted-requires c κs = search needs
 
 returns : tie.Need-returns
-unfolding spec.locatedAt
+unfolding located
 returns c = rw (c .before .before .offset .given .1) (c .accepted .ensures)
 
 returns-2 : tie.Need-returns-2
-unfolding spec.locatedAt
+unfolding located
 returns-2 c = rw (c .before .enum-told .given .1) (c .refused .ensures)
 
 pub at-spec : {M : Type 1} → statement M

@@ -1,6 +1,6 @@
 -- `Located::refused` meets its contract: the error beside zeros.
-use Rattle.path.specs.Dataplane as spec
 use borrow.Author.Needs.{needs}
+use Rattle.path.specs.Dataplane.{located}
 use Rattle.path.proofs.dataplane.Located.refused.Statement.{statement}
 use Rattle.path.proofs.dataplane.Located.refused.Tie as tie
 
@@ -8,7 +8,7 @@ zero-requires : tie.Need-zero-requires
 zero-requires c κs = search needs
 
 returns : tie.Need-returns
-unfolding spec.notLocated
+unfolding located
 returns c = rw (c .zero .ensures)
 
 pub refused-spec : {M : Type 1} → statement M

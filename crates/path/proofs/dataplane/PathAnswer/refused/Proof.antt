@@ -1,6 +1,6 @@
 -- `PathAnswer::refused` meets its contract: the error beside zeros.
-use Rattle.path.specs.Dataplane as spec
 use borrow.Author.Needs.{needs}
+use Rattle.path.specs.Dataplane.{pathAnswer}
 use Rattle.path.proofs.dataplane.PathAnswer.refused.Statement.{statement}
 use Rattle.path.proofs.dataplane.PathAnswer.refused.Tie as tie
 
@@ -8,7 +8,7 @@ zero-requires : tie.Need-zero-requires
 zero-requires c κs = search needs
 
 returns : tie.Need-returns
-unfolding spec.answerRefused
+unfolding pathAnswer
 returns c = rw (c .zero .ensures)
 
 pub refused-spec : {M : Type 1} → statement M

@@ -1,6 +1,6 @@
 -- `PathRead::refused` meets its contract: the error beside a record of zeros.
-use Rattle.path.specs.Standard as spec
 use borrow.Author.Needs.{needs}
+use Rattle.path.specs.Standard.{pathRead}
 use Rattle.path.proofs.standard.PathRead.refused.Statement.{statement}
 use Rattle.path.proofs.standard.PathRead.refused.Tie as tie
 
@@ -8,7 +8,7 @@ zero-requires : tie.Need-zero-requires
 zero-requires c κs = search needs
 
 returns : tie.Need-returns
-unfolding spec.pathRefused
+unfolding pathRead
 returns c = rw (c .zero .ensures)
 
 pub refused-spec : {M : Type 1} → statement M

@@ -4,6 +4,7 @@ use native.Mathlib.Omega.{arith}
 use borrow.Author.Tests.{le-leb, lt-leb}
 use lib.ListN.{length}
 use Rattle.path_meta_header.specs.MetaHeader.{pathLength}
+use Rattle.path_meta_header.proofs.MetaLaws.{meta-ok, meta-refused}
 use Rattle.path.specs.Standard as spec
 use borrow.Author.Needs.{needs}
 use Rattle.path.proofs.standard.StandardPath.decode.Statement.{statement}
@@ -22,11 +23,11 @@ accepted-requires : tie.Need-accepted-requires
 accepted-requires c κs = search needs
 
 returns : tie.Need-returns
-unfolding spec.readPath spec.complete
+unfolding spec.readPath spec.pathRead
 returns c =
     let m = c .before .before .before .before .before .decode .result .«meta_header» in
     let h : pathLength m ≤ length (c .before .before .before .before .before .before .before .args .bytes .now) = omega arith in
-    rw (← c .before .before .before .before .before .decode .ensures, c .before .before .before .enum-told .given .1, le-leb _ _ h) (c .accepted .ensures)
+    rw (meta-ok _ (c .before .before .before .before .before .decode .ensures) (c .before .before .before .enum-told .given .1), le-leb _ _ h) (c .accepted .ensures)
 
 refused-requires : tie.Need-refused-requires
 refused-requires c κs = search needs
@@ -38,15 +39,15 @@ refused-requires-2 : tie.Need-refused-requires-2
 refused-requires-2 c κs = search needs
 
 returns-2 : tie.Need-returns-2
-unfolding spec.readPath spec.complete
+unfolding spec.readPath
 returns-2 c =
     let m = c .before .before .before .before .before .decode .result .«meta_header» in
     let h : length (c .before .before .before .before .before .before .before .args .bytes .now) < pathLength m = omega arith in
-    rw (← c .before .before .before .before .before .decode .ensures, c .before .before .before .enum-told .given .1, lt-leb _ _ h) (c .refused .ensures)
+    rw (meta-ok _ (c .before .before .before .before .before .decode .ensures) (c .before .before .before .enum-told .given .1), lt-leb _ _ h) (c .refused .ensures)
 
 returns-3 : tie.Need-returns-3
-unfolding spec.readPath spec.complete
-returns-3 c = rw (← c .before .before .before .before .decode .ensures, c .before .before .answer .given .1) (c .refused2 .ensures)
+unfolding spec.readPath
+returns-3 c = rw (meta-refused _ (c .before .before .before .before .decode .ensures) (c .before .before .answer .given .1)) (c .refused2 .ensures)
 
 pub decode-spec : {M : Type 1} → statement M
 decode-spec =

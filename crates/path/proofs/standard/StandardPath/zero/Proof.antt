@@ -1,5 +1,4 @@
 -- `StandardPath::zero` meets its contract: the meta header of the word 0.
-use Rattle.path.specs.Standard as spec
 use borrow.Author.Needs.{needs}
 use Rattle.path.proofs.standard.StandardPath.zero.Statement.{statement}
 use Rattle.path.proofs.standard.StandardPath.zero.Tie as tie
@@ -8,7 +7,6 @@ from-u32-requires : tie.Need-from-u32-requires
 from-u32-requires c κs = search needs
 
 returns : tie.Need-returns
-unfolding spec.zeroPath
 returns c = rw (c .from-u32 .ensures)
 
 pub zero-spec : {M : Type 1} → statement M

@@ -4,6 +4,7 @@ use native.Mathlib.Omega.{arith}
 use borrow.Author.Tests.{le-ltb}
 use Rattle.path_meta_header.specs.MetaHeader.{infoFieldsCount}
 use Rattle.path.specs.Segment.{segmentOfPath}
+use Rattle.path.specs.Dataplane.{segment}
 use borrow.Author.Needs.{needs}
 use Rattle.path.proofs.standard.segment.Segment.of.Statement.{statement}
 use Rattle.path.proofs.standard.segment.Segment.of.Tie as tie
@@ -21,7 +22,7 @@ refused-requires : tie.Need-refused-requires
 refused-requires c κs = search needs
 
 returns-2 : tie.Need-returns-2
-unfolding segmentOfPath
+unfolding segmentOfPath segment
 returns-2 c =
     let a = c .before .before .before .args in
     let h : infoFieldsCount (a .path .«meta_header») ≤ a .k = omega arith in

@@ -1,6 +1,7 @@
 -- `Segment::there` meets its contract: each offset and length as the header's own functions give them.
 use borrow.Author.Tests.{lt-ltb}
 use Rattle.path.specs.Segment.{segmentOfPath}
+use Rattle.path.specs.Dataplane.{segment}
 use borrow.Author.Needs.{needs}
 use Rattle.path.proofs.standard.segment.Segment.there.Statement.{statement}
 use Rattle.path.proofs.standard.segment.Segment.there.Tie as tie
@@ -36,7 +37,7 @@ mul-t12 : tie.Need-mul-t12
 mul-t12 c = search needs
 
 returns : tie.Need-returns
-unfolding segmentOfPath
+unfolding segmentOfPath segment
 returns c =
     rw (lt-ltb _ _ (c .before .before .before .pre), c .before .before .info-fields-count .ensures .0, c .before .first-hop-field .ensures .0, c .segment-length .ensures .0)
 

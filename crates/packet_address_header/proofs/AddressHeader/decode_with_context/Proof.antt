@@ -1,0 +1,86 @@
+-- `AddressHeader::decode_with_context` meets its contract: one test for the three, and each part lies inside.
+use native.Mathlib.Omega.{arith}
+use Rattle.wire_encoding.proofs.Numbers.{or-zero-is}
+use Rattle.packet_address_header.specs.AddressHeader.{addressAt, addressAnswer, lengthOfKinds}
+use Rattle.packet_address_header.proofs.ReadingLaws.{address-length, truncated, address-read}
+use borrow.Author.Needs.{needs}
+use Rattle.packet_address_header.proofs.AddressHeader.decode_with_context.Statement.{
+  statement,
+}
+use Rattle.packet_address_header.proofs.AddressHeader.decode_with_context.Tie as tie
+
+address-length-requires : tie.Need-address-length-requires
+address-length-requires c κs = search needs
+
+add-after : tie.Need-add-after
+add-after c = search needs
+
+address-length-requires-2 : tie.Need-address-length-requires-2
+address-length-requires-2 c κs = search needs
+
+add-end : tie.Need-add-end
+add-end c = search needs
+
+zero-requires : tie.Need-zero-requires
+zero-requires c κs = search needs
+
+returns : tie.Need-returns
+unfolding addressAnswer
+returns c =
+    let args = c .before .before .before .before .before .args in
+    let short = rw (c .before .before .before .address-length .ensures .0, c .before .before .address-length2 .ensures .0) at (c .before .if1 .taken) in
+    rw (c .zero .ensures, truncated (args .bytes .now) (args .destination-kind) (args .source-kind) short)
+
+read-requires : tie.Need-read-requires
+read-requires c κs =
+    omega (arith, c .before .before .address-length .ensures .0, c .if1 .left)
+
+read-requires-2 : tie.Need-read-requires-2
+read-requires-2 c κs =
+    omega (arith, c .before .before .address-length2 .ensures .0, c .before .if1 .left)
+
+u64-or-zero-requires : tie.Need-u64-or-zero-requires
+u64-or-zero-requires c κs = search needs
+
+u64-or-zero-requires-2 : tie.Need-u64-or-zero-requires-2
+u64-or-zero-requires-2 c κs = search needs
+
+returns-2 : tie.Need-returns-2
+unfolding addressAt addressAnswer lengthOfKinds
+returns-2 c =
+    let s = c .before .before .before .before in
+    let first = s .before .before .address-length .ensures .0 in
+    let second = s .before .address-length2 .ensures .0 in
+    let args = s .before .before .before .before .args in
+    let bytes = args .bytes .now in
+    let enough = s .if1 .left in
+    let read = address-read bytes (args .destination-kind) (args .source-kind) (omega (arith, enough, first, second)) in
+    let long = address-length bytes (args .destination-kind) (args .source-kind) in
+    rw (
+      read,
+      long,
+      c .u64-or-zero2 .ensures,
+      c .before .u64-or-zero .ensures,
+      or-zero-is 8 bytes 0 (omega arith),
+      or-zero-is 8 bytes 8 (omega arith),
+      c .before .before .read2 .ensures,
+      c .before .before .before .read .ensures,
+      first,
+      second,
+    )
+
+pub decode-with-context-spec : {M : Type 1} → statement M
+decode-with-context-spec =
+    tie.close
+    (tie.spec
+    address-length-requires
+    add-after
+    address-length-requires-2
+    add-end
+    zero-requires
+    returns
+    read-requires
+    read-requires-2
+    u64-or-zero-requires
+    u64-or-zero-requires-2
+    returns-2)

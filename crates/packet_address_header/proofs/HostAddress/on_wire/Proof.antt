@@ -1,0 +1,55 @@
+-- `host_on_wire` meets its contract, arm by arm.
+use Rattle.packet_address_header.specs.AddressHeader.{kindOf}
+use Rattle.packet_address_header.specs.AddressHeader.{rawOf, hostOnWire}
+use borrow.Author.Needs.{needs}
+use Rattle.packet_address_header.proofs.HostAddress.on_wire.Statement.{statement}
+use Rattle.packet_address_header.proofs.HostAddress.on_wire.Tie as tie
+
+enum-known-host : tie.Need-enum-known-host
+enum-known-host c = search needs
+
+enum-told : tie.Need-enum-told
+enum-told c = search needs
+
+enum-told-2 : tie.Need-enum-told-2
+enum-told-2 c = search needs
+
+enum-known-named : tie.Need-enum-known-named
+enum-known-named c = search needs
+
+service-bytes-requires : tie.Need-service-bytes-requires
+service-bytes-requires c κs = search needs
+
+enum-known-host-2 : tie.Need-enum-known-host-2
+enum-known-host-2 c = search needs
+
+returns : tie.Need-returns
+unfolding hostOnWire kindOf rawOf
+returns c = rw (c .before .before .before .host .given .1, c .enum-told .given .1)
+
+returns-2 : tie.Need-returns-2
+unfolding hostOnWire kindOf rawOf
+returns-2 c = rw (c .before .before .before .host .given .1, c .enum-told2 .given .1)
+
+returns-3 : tie.Need-returns-3
+unfolding hostOnWire kindOf rawOf
+returns-3 c = rw (c .before .before .before .before .before .host .given .1, c .before .before .named .given .1, c .service-bytes .ensures)
+
+returns-4 : tie.Need-returns-4
+unfolding hostOnWire kindOf rawOf
+returns-4 c = rw (c .before .host2 .given .1)
+
+pub on-wire-spec : {M : Type 1} → statement M
+on-wire-spec =
+    tie.close
+    (tie.spec
+    enum-known-host
+    enum-told
+    enum-told-2
+    enum-known-named
+    service-bytes-requires
+    enum-known-host-2
+    returns
+    returns-2
+    returns-3
+    returns-4)

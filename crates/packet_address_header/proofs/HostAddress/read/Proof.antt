@@ -1,0 +1,44 @@
+-- `HostAddress::read` meets its contract: kind 4 is a service, any other keeps its bytes.
+use borrow.Author.Tests.{eq-eqb, ne-eqb}
+use native.Mathlib.Omega.{arith}
+use Rattle.wire_encoding.proofs.Numbers.{or-zero-is}
+use Rattle.packet_common_header.specs.CommonHeader.{hostLength}
+use Rattle.packet_address_header.specs.AddressHeader.{hostAt}
+use borrow.Author.Needs.{needs}
+use Rattle.packet_address_header.proofs.HostAddress.read.Statement.{statement}
+use Rattle.packet_address_header.proofs.HostAddress.read.Tie as tie
+
+address-length-requires : tie.Need-address-length-requires
+address-length-requires c κs = search needs
+
+u16-or-zero-requires : tie.Need-u16-or-zero-requires
+u16-or-zero-requires c κs = search needs
+
+returns : tie.Need-returns
+unfolding hostAt hostLength
+returns c =
+    let args = c .before .before .before .before .args in
+    rw (eq-eqb _ _ (c .before .if1 .taken), c .u16-or-zero .ensures, or-zero-is 2 (args .bytes .now) (args .at) (omega arith))
+
+of-kind-requires : tie.Need-of-kind-requires
+of-kind-requires c κs = search needs
+
+raw-host-address-requires : tie.Need-raw-host-address-requires
+raw-host-address-requires c κs =
+    let long = c .before .before .address-length .ensures in
+    (long .1, rw (long .0) (c .before .before .before .before .pre))
+
+returns-2 : tie.Need-returns-2
+unfolding hostAt
+returns-2 c = rw (ne-eqb _ _ (c .before .before .if1 .left), c .before .of-kind .ensures, c .raw-host-address .ensures, c .before .before .before .address-length .ensures .0)
+
+pub read-spec : {M : Type 1} → statement M
+read-spec =
+    tie.close
+    (tie.spec
+    address-length-requires
+    u16-or-zero-requires
+    returns
+    of-kind-requires
+    raw-host-address-requires
+    returns-2)

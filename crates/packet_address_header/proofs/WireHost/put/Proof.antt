@@ -1,0 +1,106 @@
+-- `WireHost::put` meets its contract: a host is whole words, so the loop ends where the host does.
+use mathlib.Core.Path.{_≡_, refl, ap, _∙_}
+use Prim.Native.Nat.{ℕ, _+_, _-_, _≤_}
+use native.Mathlib.Omega.{arith}
+use lib.ListN.{length, take}
+use lib.Seq.{sets}
+use Rattle.packet_common_header.specs.CommonHeader.{hostLength}
+use Rattle.packet_address_header.specs.AddressHeader.{wireHostBytes}
+use Rattle.packet_address_header.proofs.WritingLaws.{Written, host-words, length-written, word-room, word-written}
+use borrow.Author.Needs.{needs}
+use Rattle.packet_address_header.proofs.WireHost.put.Statement.{statement}
+use Rattle.packet_address_header.proofs.WireHost.put.Tie as tie
+
+abbrev Inv-loop : tie.InvT-loop
+Inv-loop dst₀ at len bytes done₀ dst done = Written bytes dst₀ at len dst done
+
+abbrev μ-loop : tie.MeasureT-loop
+μ-loop dst₀ at len bytes done₀ dst done = len - done
+
+encoded-length-requires : tie.Need-encoded-length-requires Inv-loop μ-loop
+encoded-length-requires c κs = search needs
+
+loop-holds : tie.Need-loop-holds Inv-loop μ-loop
+loop-holds c = record {
+  so-far = refl;
+  words = rw (c .before .encoded-length .ensures .0) (host-words (c .before .before .before .args .self .kind));
+  at-word = refl;
+  passed = omega arith;
+}
+
+room : (c : tie.In-loop Inv-loop μ-loop) → c .before .before .before .before .before .args .at + c .before .loop .done + 4 ≤ length (c .before .loop .dst)
+room c = word-room (c .before .loop .inv) (c .loop-test .taken) (omega (arith, c .before .before .before .encoded-length .ensures .0))
+
+add-put-u32 : tie.Need-add-put-u32 Inv-loop μ-loop
+add-put-u32 c = omega (arith, room c)
+
+add-put-u32-2 : tie.Need-add-put-u32-2 Inv-loop μ-loop
+add-put-u32-2 c = omega (arith, room c)
+
+add-put-u32-3 : tie.Need-add-put-u32-3 Inv-loop μ-loop
+add-put-u32-3 c = omega (arith, room c)
+
+sub-put-u32 : tie.Need-sub-put-u32 Inv-loop μ-loop
+sub-put-u32 c = omega (arith, room c)
+
+part-put-u32-start : tie.Need-part-put-u32-start Inv-loop μ-loop
+part-put-u32-start c = omega (arith, room c)
+
+part-put-u32-end : tie.Need-part-put-u32-end Inv-loop μ-loop
+part-put-u32-end c = omega (arith, room c)
+
+slice-aggregate-u32-or-zero : tie.Need-slice-aggregate-u32-or-zero Inv-loop μ-loop
+slice-aggregate-u32-or-zero c = search needs
+
+u32-or-zero-requires : tie.Need-u32-or-zero-requires Inv-loop μ-loop
+u32-or-zero-requires c κs = search needs
+
+put-u32-requires : tie.Need-put-u32-requires Inv-loop μ-loop
+put-u32-requires c κs = search needs
+
+add-done : tie.Need-add-done Inv-loop μ-loop
+add-done c = omega (arith, c .before .before .before .before .before .before .before .before .before .encoded-length .ensures .1)
+
+loop-less : tie.Need-loop-less Inv-loop μ-loop
+loop-less c = omega arith
+
+loop-again : tie.Need-loop-again Inv-loop μ-loop
+loop-again c =
+    let s = c .before .before .before .before .before .before in
+    let start = s .before .before .before .before .before in
+    let sixteen : length (start .args .self .bytes) ≡ 16 = search needs in
+    let long = s .before .before .before .encoded-length .ensures in
+    word-written (s .before .loop .inv) (λ k. search needs) (s .loop-test .taken) (omega arith) (omega arith) (c .before .before .before .u32-or-zero .ensures) (start .args .at + s .before .loop .done + 4 - (start .args .at + s .before .loop .done)) (omega arith) (c .before .before .put-u32 .ensures .1)
+
+same-length : tie.Need-same-length Inv-loop μ-loop
+same-length c = length-written (c .before .loop .inv)
+
+returns : tie.Need-returns Inv-loop μ-loop
+unfolding wireHostBytes
+returns c =
+    let start = c .before .before .before .before .before in
+    let all : c .before .loop .done ≡ hostLength (start .args .self .kind) = omega (arith, c .loop-test .left, c .before .before .before .encoded-length .ensures .0) in
+    c .before .loop .inv .so-far ∙ ap (λ (n : ℕ). sets (start .args .dst .now) (start .args .at) (take n (start .args .self .bytes))) all
+
+pub put-spec : {M : Type 1} → statement M
+put-spec =
+    tie.close
+    (tie.spec
+    Inv-loop
+    μ-loop
+    encoded-length-requires
+    loop-holds
+    add-put-u32
+    add-put-u32-2
+    add-put-u32-3
+    sub-put-u32
+    part-put-u32-start
+    part-put-u32-end
+    slice-aggregate-u32-or-zero
+    u32-or-zero-requires
+    put-u32-requires
+    add-done
+    loop-less
+    loop-again
+    same-length
+    returns)

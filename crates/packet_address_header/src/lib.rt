@@ -1,0 +1,407 @@
+// The address header of a packet, by value: the networks and the hosts of both ends, read from bytes and written as bytes. To be
+// written, a host's kind and bytes are taken out of its enum once.
+use address::host::HostAddr;
+use address::ia::IsdAsn;
+use address::scion_address::ScionAddr;
+use address::service::ServiceAddr;
+use packet_common_header::AddressInfo;
+use path_error::DecodeError;
+use path_error::Decoded;
+use path_error::EncodeError;
+use path_error::Encoded;
+use wire_encoding::read::u16_or_zero;
+use wire_encoding::read::u32_or_zero;
+use wire_encoding::read::u64_or_zero;
+use wire_encoding::write::Put;
+use wire_encoding::write::put_slice;
+use wire_encoding::write::put_u16;
+use wire_encoding::write::put_u32;
+use wire_encoding::write::put_u64;
+ghost use mathlib.Core.Path.{_≡_};
+ghost use Prim.Native.Nat.{_+_, _≤_};
+ghost use lib.ListN.{length};
+ghost use lib.Seq.{sets};
+ghost use Rattle.wire_encoding.specs.Answers.{putAnswer};
+ghost use Rattle.wire_encoding.specs.BigEndian.{bytesOf, placed, written};
+ghost use Rattle.wire_encoding.specs.Result.{orElse};
+ghost use Rattle.path_error.specs.Errors.{encodedOf};
+ghost use Rattle.packet_common_header.specs.CommonHeader.{hostLength};
+ghost use Rattle.packet_address_header.specs.AddressHeader as spec;
+
+// A host of a kind that has a name, or another kind.
+pub enum MaybeEncoded {
+    Decoded(HostAddr),
+    Encoded(u8),
+}
+
+// A host and the bytes beside it: they begin with the host's own, the others are zero. A service's number stands in `host`.
+pub struct HostAddress {
+    pub host: MaybeEncoded,
+    pub bytes: [u8; 16],
+}
+
+pub struct AddressHeader {
+    pub destination_ia: IsdAsn,
+    pub source_ia: IsdAsn,
+    pub destination: HostAddress,
+    pub source: HostAddress,
+}
+
+// An address header that was read, and its length in bytes; all zero where it was refused.
+pub struct AddressHeaderRead {
+    pub answer: Decoded,
+    pub header: AddressHeader,
+    pub length: usize,
+}
+
+// The address of an end whose host has a name; all zero where it has none.
+pub struct EndhostAddr {
+    pub known: bool,
+    pub address: ScionAddr,
+}
+
+// A host as it is on the wire: its kind, and sixteen bytes that begin with its own.
+pub struct WireHost {
+    pub kind: u8,
+    pub bytes: [u8; 16],
+}
+
+// An address header as it is on the wire.
+pub struct WireAddress {
+    pub destination_ia: u64,
+    pub source_ia: u64,
+    pub destination: WireHost,
+    pub source: WireHost,
+}
+
+// The `len` bytes at `at`, then zeros.
+fn raw_host_address(bytes: &[u8], at: usize, len: usize) -> [u8; 16]
+    requires { ⌜ (len ≤ 16) × (at + len ≤ length (now bytes)) ⌝ }
+    ensures { λ r. ⌜ r ≡ spec.padded (now (bytes .entry)) at len ⌝ }
+{
+    let mut host = [0; 16];
+    put_slice(&mut host, 0, &bytes[at..at + len]);
+    host
+}
+
+// A service's number, then zeros.
+fn service_bytes(number: u16) -> [u8; 16]
+    ensures { λ r. ⌜ r ≡ spec.serviceBytes number ⌝ }
+{
+    let mut raw = [0; 16];
+    put_u16(&mut raw, 0, number);
+    raw
+}
+
+impl WireHost {
+    // How many bytes the host has on the wire.
+    pub fn encoded_length(self) -> usize
+        ensures { λ r. ⌜ (r ≡ hostLength (self .kind)) × (r ≤ 16) ⌝ }
+    {
+        AddressInfo(self.kind).address_length()
+    }
+
+    // Writes the host at `at`, where there is room for it, in words of four bytes.
+    fn put(self, dst: &mut [u8], at: usize)
+        requires { ⌜ at + hostLength (self .kind) ≤ length (now dst) ⌝ }
+        ensures { λ _. ⌜ now (dst .exit) ≡ sets (now (dst .entry)) at (spec.wireHostBytes self) ⌝ }
+    {
+        let len = self.encoded_length();
+        let bytes = self.bytes;
+        let mut done: usize = 0;
+        while done < len {
+            put_u32(
+                &mut dst[at + done..at + done + 4],
+                0,
+                u32_or_zero(&bytes, done),
+            );
+            done += 4;
+        }
+    }
+}
+
+// Writes an end's host at `host_at` and its network before it, at `at`, where there is room for both. The host goes first: after its
+// loop the compiler stores the network's eight bytes at once.
+fn put_end(network: u64, host: WireHost, dst: &mut [u8], at: usize, host_at: usize)
+    requires { ⌜ (at + 8 ≤ «host_at») × («host_at» + hostLength (host .kind) ≤ length (now dst)) ⌝ }
+    ensures { λ _. ⌜ now (dst .exit) ≡ sets (sets (now (dst .entry)) at (bytesOf 8 network)) «host_at» (spec.wireHostBytes host) ⌝ }
+{
+    host.put(dst, host_at);
+    put_u64(dst, at, network);
+}
+
+impl WireAddress {
+    // How many bytes the header has on the wire.
+    pub fn encoded_length(self) -> usize
+        ensures { λ r. ⌜ (r ≡ spec.wireLength self) × (r ≤ 48) ⌝ }
+    {
+        AddressHeader::BASE_LENGTH
+            + self.destination.encoded_length()
+            + self.source.encoded_length()
+    }
+
+    // Whether the header can be written to `size` bytes.
+    fn check(self, size: usize) -> Encoded
+        ensures { λ r. ⌜ r ≡ encodedOf (spec.writeWire self size) ⌝ }
+    {
+        if 16 <= self.destination.kind {
+            return Encoded::Refused(EncodeError::NumberTooWide);
+        }
+        if 16 <= self.source.kind {
+            return Encoded::Refused(EncodeError::NumberTooWide);
+        }
+        if size == self.encoded_length() {
+            return Encoded::Done;
+        }
+        Encoded::Refused(EncodeError::InadequateBufferSize)
+    }
+
+    // Writes both ends at `at`, where there is room for them.
+    fn write(self, dst: &mut [u8], at: usize)
+        requires { ⌜ at + spec.wireLength self ≤ length (now dst) ⌝ }
+        ensures { λ _. ⌜ now (dst .exit) ≡ sets (now (dst .entry)) at (spec.wireBytes self) ⌝ }
+    {
+        let hosts = at + AddressHeader::BASE_LENGTH;
+        let last = hosts + self.destination.encoded_length();
+        put_end(self.destination_ia, self.destination, dst, at, hosts);
+        put_end(self.source_ia, self.source, dst, at + 8, last);
+    }
+
+    // Writes all of the header at `at`, or nothing for want of room.
+    pub fn put(self, dst: &mut [u8], at: usize) -> Put
+        ensures { λ r. ⌜ r ≡ putAnswer (written (now (dst .entry)) at (spec.wireBytes self)) ⌝ }
+        ensures { λ _. ⌜ now (dst .exit) ≡ placed (now (dst .entry)) at (spec.wireBytes self) ⌝ }
+    {
+        if at <= dst.len() {
+            if self.encoded_length() <= dst.len() - at {
+                self.write(dst, at);
+                return Put::Done;
+            }
+        }
+        Put::InadequateBufferSize
+    }
+}
+
+impl MaybeEncoded {
+    // The host kind on the wire.
+    pub fn kind(self) -> u8
+        ensures { λ r. ⌜ r ≡ spec.kindOf self ⌝ }
+    {
+        match self {
+            MaybeEncoded::Decoded(host) => host.kind(),
+            MaybeEncoded::Encoded(kind) => kind,
+        }
+    }
+
+    // A host of a kind that is no service.
+    fn of_kind(kind: u8) -> MaybeEncoded
+        ensures { λ r. ⌜ r ≡ spec.hostOfKind kind ⌝ }
+    {
+        if kind == 0 {
+            return MaybeEncoded::Decoded(HostAddr::V4);
+        }
+        if kind == 3 {
+            return MaybeEncoded::Decoded(HostAddr::V6);
+        }
+        MaybeEncoded::Encoded(kind)
+    }
+}
+
+impl HostAddress {
+    // The host kind on the wire.
+    pub fn kind(self) -> u8
+        ensures { λ r. ⌜ r ≡ spec.kindOf (self .host) ⌝ }
+    {
+        let host = self.host;
+        host.kind()
+    }
+
+    // How many bytes the host has on the wire.
+    pub fn encoded_length(self) -> usize
+        ensures { λ r. ⌜ (r ≡ hostLength (spec.kindOf (self .host))) × (r ≤ 16) ⌝ }
+    {
+        AddressInfo(self.kind()).address_length()
+    }
+
+    // The host of a kind at `at`, whose bytes are there; a service's two padding bytes are dropped.
+    fn read(bytes: &[u8], at: usize, kind: u8) -> HostAddress
+        requires { ⌜ at + hostLength kind ≤ length (now bytes) ⌝ }
+        ensures { λ r. ⌜ r ≡ spec.hostAt kind (now (bytes .entry)) at ⌝ }
+    {
+        let len = AddressInfo(kind).address_length();
+        if kind == 4 {
+            let number = u16_or_zero(bytes, at);
+            return HostAddress {
+                host: MaybeEncoded::Decoded(HostAddr::Svc(ServiceAddr(number))),
+                bytes: [0; 16],
+            };
+        }
+        let host = MaybeEncoded::of_kind(kind);
+        let raw = raw_host_address(bytes, at, len);
+        HostAddress { host, bytes: raw }
+    }
+
+    // The host as it is on the wire; a service is its number, then zeros.
+    fn on_wire(self) -> WireHost
+        ensures { λ r. ⌜ r ≡ spec.hostOnWire self ⌝ }
+    {
+        let host = self.host;
+        let bytes = self.bytes;
+        match host {
+            MaybeEncoded::Decoded(named) => match named {
+                HostAddr::V4 => WireHost { kind: 0, bytes },
+                HostAddr::V6 => WireHost { kind: 3, bytes },
+                HostAddr::Svc(service) => WireHost {
+                    kind: 4,
+                    bytes: service_bytes(service.0),
+                },
+            },
+            MaybeEncoded::Encoded(kind) => WireHost { kind, bytes },
+        }
+    }
+
+    // A host that has a name, with its network.
+    fn in_network(self, isd_asn: IsdAsn) -> EndhostAddr
+        ensures { λ r. ⌜ r ≡ spec.endhostOf self «isd_asn» ⌝ }
+    {
+        let host = self.host;
+        let bytes = self.bytes;
+        match host {
+            MaybeEncoded::Decoded(named) => EndhostAddr {
+                known: true,
+                address: ScionAddr::new(isd_asn, named, bytes),
+            },
+            MaybeEncoded::Encoded(_) => EndhostAddr {
+                known: false,
+                address: ScionAddr::new(IsdAsn(0), HostAddr::V4, [0; 16]),
+            },
+        }
+    }
+}
+
+impl AddressHeader {
+    // The length of the two network numbers.
+    pub const BASE_LENGTH: usize = 16;
+
+    // The header of two ends.
+    pub fn new(destination: ScionAddr, source: ScionAddr) -> AddressHeader
+        ensures { λ r. ⌜ r ≡ spec.addressHeaderOf destination source ⌝ }
+    {
+        let to = destination.host;
+        let from = source.host;
+        let to_bytes = destination.bytes;
+        let from_bytes = source.bytes;
+        let destination_ia = destination.isd_asn;
+        let source_ia = source.isd_asn;
+        AddressHeader {
+            destination_ia,
+            source_ia,
+            destination: HostAddress {
+                host: MaybeEncoded::Decoded(to),
+                bytes: to_bytes,
+            },
+            source: HostAddress {
+                host: MaybeEncoded::Decoded(from),
+                bytes: from_bytes,
+            },
+        }
+    }
+
+    // The destination, where its host has a name.
+    pub fn destination(self) -> EndhostAddr
+        ensures { λ r. ⌜ r ≡ spec.endhostOf (self .destination) (self .«destination_ia») ⌝ }
+    {
+        self.destination.in_network(self.destination_ia)
+    }
+
+    // The source, where its host has a name.
+    pub fn source(self) -> EndhostAddr
+        ensures { λ r. ⌜ r ≡ spec.endhostOf (self .source) (self .«source_ia») ⌝ }
+    {
+        self.source.in_network(self.source_ia)
+    }
+
+    // The header that stands in the place of one that was refused.
+    pub fn zero() -> AddressHeader
+        ensures { λ r. ⌜ r ≡ spec.zeroAddress ⌝ }
+    {
+        let host = HostAddress {
+            host: MaybeEncoded::Decoded(HostAddr::V4),
+            bytes: [0; 16],
+        };
+        AddressHeader {
+            destination_ia: IsdAsn(0),
+            source_ia: IsdAsn(0),
+            destination: host,
+            source: host,
+        }
+    }
+
+    // How many bytes the header has on the wire.
+    pub fn encoded_length(self) -> usize
+        ensures { λ r. ⌜ (r ≡ spec.addressLength self) × (r ≤ 48) ⌝ }
+    {
+        AddressHeader::BASE_LENGTH
+            + self.destination.encoded_length()
+            + self.source.encoded_length()
+    }
+
+    // Reads the address header that begins `bytes`, whose hosts are of these kinds.
+    pub fn decode_with_context(
+        bytes: &[u8],
+        destination_kind: u8,
+        source_kind: u8,
+    ) -> AddressHeaderRead
+        ensures { λ r. ⌜ r ≡ spec.addressAnswer (spec.readAddress (now (bytes .entry)) «destination_kind» «source_kind») ⌝ }
+    {
+        let after = AddressHeader::BASE_LENGTH + AddressInfo(destination_kind).address_length();
+        let end = after + AddressInfo(source_kind).address_length();
+        if bytes.len() < end {
+            let header = AddressHeader::zero();
+            return AddressHeaderRead {
+                answer: Decoded::Refused(DecodeError::PacketEmptyOrTruncated),
+                header,
+                length: 0,
+            };
+        }
+        let destination = HostAddress::read(bytes, AddressHeader::BASE_LENGTH, destination_kind);
+        let source = HostAddress::read(bytes, after, source_kind);
+        AddressHeaderRead {
+            answer: Decoded::Accepted,
+            header: AddressHeader {
+                destination_ia: IsdAsn(u64_or_zero(bytes, 0)),
+                source_ia: IsdAsn(u64_or_zero(bytes, 8)),
+                destination,
+                source,
+            },
+            length: end,
+        }
+    }
+
+    // The header as it is on the wire.
+    pub fn on_wire(self) -> WireAddress
+        ensures { λ r. ⌜ r ≡ spec.onWire self ⌝ }
+    {
+        WireAddress {
+            destination_ia: self.destination_ia.0,
+            source_ia: self.source_ia.0,
+            destination: self.destination.on_wire(),
+            source: self.source.on_wire(),
+        }
+    }
+
+    // Writes the header to `dst`, or leaves it as it is.
+    pub fn encode_to(self, dst: &mut [u8]) -> Encoded
+        ensures { λ r. ⌜ r ≡ encodedOf (spec.writeAddress self (length (now (dst .entry)))) ⌝ }
+        ensures { λ _. ⌜ now (dst .exit) ≡ orElse (spec.writeAddress self (length (now (dst .entry)))) (now (dst .entry)) ⌝ }
+    {
+        let wire = self.on_wire();
+        match wire.check(dst.len()) {
+            Encoded::Done => {
+                wire.put(dst, 0);
+                Encoded::Done
+            }
+            Encoded::Refused(error) => Encoded::Refused(error),
+        }
+    }
+}
