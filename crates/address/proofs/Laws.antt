@@ -4,8 +4,8 @@ use mathlib.Core.Path.{_≡_, refl}
 use mathlib.Core.Bool.{true, false}
 use Prim.Native.Nat.{ℕ, _+_, _*_, _^_, _<_}
 use native.Mathlib.Omega.{arith}
-use Rattle.bits.proofs.BitLaws.{bit-kept}
-use Rattle.bits.specs.Bits.{withBit}
+use Rattle.wire_encoding.proofs.Bits.{bit-kept}
+use Rattle.wire_encoding.specs.Bits.{withBit}
 use Rattle.wire_encoding.specs.Result.{ok, refused}
 use Rattle.address.specs.Ia.{isdOf, asnOf, isWildcard, joined}
 use Rattle.address.specs.Service.{isMulticast, multicastOf, anycastOf}

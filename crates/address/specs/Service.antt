@@ -1,7 +1,7 @@
 -- Service numbers: 16 bits, of which the highest, bit 15, says multicast.
 use Prim.Native.Nat.{ℕ}
 use mathlib.Core.Bool.{Bool, true, false}
-use Rattle.bits.specs.Bits.{bitOf, withBit}
+use Rattle.wire_encoding.specs.Bits.{bitOf, withBit}
 
 abbrev pub isMulticast : ℕ → Bool
 isMulticast number = bitOf 15 number

@@ -10,9 +10,9 @@ use crate::travel;
 use crate::values;
 use crate::words;
 use path::dataplane::DataplanePath;
-use path_copy::copy_to_slice;
 use path_fields::expiry;
-use reverse::reverse_to_slice;
+use path_reverse::copy_to_slice;
+use path_reverse::reverse_to_slice;
 use wire_encoding::write::put_u16;
 use wire_encoding::write::put_u32;
 use wire_encoding::write::put_u64;
@@ -78,7 +78,7 @@ fn change(number: usize, line: &[u8], bytes: &mut [u8], index: usize) {
     match number {
         1 => travel::alert(line, bytes, index),
         // `move T B`: the bytes after a single move.
-        2 => travel::done(moves::single_move(words::u8_at(line, 1), bytes)),
+        2 => travel::done(path_moves::single_move(words::u8_at(line, 1), bytes)),
         3 => travel::walk(line, bytes, index),
         // `put 2 B at n`: a 16-bit number written.
         4 => values::put(put_u16(bytes, index, words::u16_at(line, 4))),

@@ -2,10 +2,10 @@
 use crate::packets;
 use crate::print;
 use crate::words;
-use meta_header_encoding::Word;
 use path_meta_header::HopFieldOf;
 use path_meta_header::Offset;
 use path_meta_header::PathMetaHeader;
+use path_meta_header::Word;
 
 // The three lengths.
 fn lengths(meta_header: PathMetaHeader) {
@@ -90,13 +90,13 @@ pub fn counts(line: &[u8]) {
     print::number(meta_header.interfaces_count() as u64);
     print::number(meta_header.encoded_path_length() as u64);
     print::number(meta_header.computed_info_field_index() as u64);
-    word(meta_header_encoding::as_u32(meta_header));
-    lengths(meta_header_reversal::to_reversed(meta_header));
+    word(meta_header.as_u32());
+    lengths(meta_header.to_reversed());
 }
 
 // `encode C H R a b c B`: a header written to a destination that holds B.
 pub fn encode(line: &[u8], dst: &mut [u8]) {
-    packets::encoded(meta_header_encoding::encode_to(record_at(line), dst));
+    packets::encoded(record_at(line).encode_to(dst));
 }
 
 // `ifhop a b c i`: the hop field of interface i.

@@ -5,13 +5,13 @@ use crate::words;
 use address::host::HostAddr;
 use address::ia::IsdAsn;
 use address::service::ServiceAddr;
-use headers::ScionHeaders;
+use errors::packet_error::Encoded;
 use packet::raw::ScionPacketRaw;
 use packet_address_header::AddressHeader;
 use packet_address_header::HostAddress;
 use packet_address_header::MaybeEncoded;
 use packet_common_header::CommonHeader;
-use path_error::Encoded;
+use packet_headers::ScionHeaders;
 ghost use Prim.Native.Nat.{_<_};
 
 // Document 01's number of an answer to writing.

@@ -1,7 +1,7 @@
 // Answers on standard output: each number or byte string after a space.
+use errors::packet_error::Decoded;
+use errors::path_error::Answer;
 use libc::STDOUT_FILENO;
-use path_error::Answer;
-use path_error::Decoded;
 use path_fields::Interface;
 
 // That a line is no call.

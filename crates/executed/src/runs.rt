@@ -1,9 +1,9 @@
 // Calls on runs of hop fields.
 use crate::print;
-use hop_fields::run;
-use hop_fields::view::read_ends;
 use path::dataplane::DataplanePath;
 use path_fields::HopField;
+use path_hop_fields::run;
+use path_hop_fields::view::read_ends;
 
 // The numbers of a hop field: flags, expiry byte, construction interfaces, code.
 fn hop_field(field: HopField) {

@@ -23,7 +23,7 @@ pub fn alert(line: &[u8], bytes: &mut [u8], index: usize) {
 
 // `walk T B limit`: how many moves a walk made, whether it stands at the last hop field, and the bytes after it.
 pub fn walk(line: &[u8], bytes: &mut [u8], limit: usize) {
-    let walked = moves::walk(words::u8_at(line, 1), bytes, limit);
+    let walked = path_moves::walk(words::u8_at(line, 1), bytes, limit);
     let answer = walked.answer;
     print::answer(answer);
     print::number(walked.moves as u64);

@@ -5,9 +5,9 @@ mod path_lines;
 mod refusal;
 mod text;
 
+use errors::packet_error::Decoded;
 use libc::STDIN_FILENO;
 use packet::raw::ScionPacketRaw;
-use path_error::Decoded;
 
 // A packet that was split.
 fn accepted(bytes: &[u8], packet: ScionPacketRaw) {

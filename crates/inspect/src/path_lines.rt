@@ -1,12 +1,12 @@
 // The lines of a standard path: segments, hop fields, interfaces in order of travel, and the path of a reply.
 use crate::text;
+use errors::path_error::Answer;
 use path::dataplane::DataplanePath;
-use path_copy::copy_to_slice;
-use path_error::Answer;
 use path_fields::HopField;
 use path_fields::InfoField;
 use path_fields::Interface;
 use path_meta_header::PathMetaHeader;
+use path_reverse::copy_to_slice;
 use wire_encoding::read::wide;
 ghost use Prim.Native.Nat.{_+_, _≤_};
 
@@ -135,7 +135,7 @@ fn interfaces(bytes: &[u8], meta_header: PathMetaHeader) {
 // Whether the packet can be moved on from where it stands, tried on a copy: 0, or the number of the refusal.
 fn onward(bytes: &[u8], copy: &mut [u8]) {
     copy_to_slice(standard(), bytes, copy);
-    let moved = moves::single_move(1, copy);
+    let moved = path_moves::single_move(1, copy);
     let answer = moved.answer;
     text::name(b"  next move");
     match answer {
@@ -147,7 +147,7 @@ fn onward(bytes: &[u8], copy: &mut [u8]) {
 
 // The path of a reply.
 fn reply(bytes: &[u8], turned: &mut [u8]) {
-    reverse::reverse_to_slice(1, bytes, turned);
+    path_reverse::reverse_to_slice(1, bytes, turned);
     text::hex_line(b"  reply's path", turned);
 }
 

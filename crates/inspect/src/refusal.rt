@@ -1,6 +1,6 @@
 // Document 01's answers in words.
 use crate::text;
-use path_error::DecodeError;
+use errors::packet_error::DecodeError;
 
 // What a number of reading means.
 fn meaning(number: u8) {

@@ -1,1 +1,1 @@
-pub mod PacketLaws
+pub mod RawLaws

@@ -4,15 +4,15 @@ use mathlib.Core.List.{List, []}
 use lib.ListN.{length, take, drop}
 use lib.Dec.{leb, eqb}
 use Rattle.wire_encoding.specs.Result.{Result, ok, require, _>>_, _>>=_, orElse, told}
-use Rattle.path_error.specs.declared.DecodeError.{DecodeError}
-use Rattle.path_error.specs.declared.DecodeError.the-variants.{PacketEmptyOrTruncated, InconsistentPathLength}
+use Rattle.errors.specs.declared.packet_error.DecodeError.{DecodeError}
+use Rattle.errors.specs.declared.packet_error.DecodeError.the-variants.{PacketEmptyOrTruncated, InconsistentPathLength}
 use Rattle.path_meta_header.specs.MetaHeader.{metaOf}
 use Rattle.path_meta_header.specs.declared.PathMetaHeader.{PathMetaHeader}
 use Rattle.path.specs.Standard.{pathUnder}
 use Rattle.path.specs.Segment.{nowhere}
 use Rattle.path.specs.Dataplane.{readDataplane}
 use Rattle.path.specs.declared.standard.Part.{Part}
-use Rattle.path_error.specs.Errors.{decodedOf}
+use Rattle.errors.specs.Errors.{decodedOf}
 use Rattle.packet_common_header.specs.CommonHeader.{zeroCommon, readCommon, headerLength}
 use Rattle.packet_address_header.specs.AddressHeader.{zeroAddress, addressLength, readAddress}
 use Rattle.packet_common_header.specs.declared.CommonHeader.{CommonHeader}

@@ -1,11 +1,11 @@
 // A packet split: its headers as values, its path and its payload as parts of the caller's bytes.
+use errors::packet_error::DecodeError;
+use errors::packet_error::Decoded;
 use packet_address_header::AddressHeader;
 use packet_common_header::CommonHeader;
 use path::dataplane::DataplanePath;
 use path::standard::Part;
 use path::standard::StandardPath;
-use path_error::DecodeError;
-use path_error::Decoded;
 ghost use mathlib.Core.Path.{_≡_};
 ghost use Prim.Native.Nat.{_≤_, min};
 ghost use Rattle.wire_encoding.specs.Result.{refused};

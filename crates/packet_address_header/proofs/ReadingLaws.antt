@@ -12,12 +12,12 @@ use lib.Dec.{leb, eqb}
 use borrow.Author.Tests.{le-leb, lt-leb, leb-true, eqb-true}
 use Rattle.wire_encoding.specs.Result.{Result, ok, refused, require}
 use Rattle.wire_encoding.specs.BigEndian.{part, placed}
-use Rattle.wire_encoding.proofs.Results.{same-value, held}
-use Rattle.wire_encoding.proofs.Parts.{length-part}
+use Rattle.wire_encoding.proofs.Result.{same-value, held}
+use Rattle.wire_encoding.proofs.Lists.{length-part}
 use Rattle.wire_encoding.proofs.Writes.{placed-is}
 use Rattle.address.specs.declared.host.HostAddr.the-variants.{V4, V6}
-use Rattle.path_error.specs.declared.DecodeError.{DecodeError}
-use Rattle.path_error.specs.declared.DecodeError.the-variants.{PacketEmptyOrTruncated}
+use Rattle.errors.specs.declared.packet_error.DecodeError.{DecodeError}
+use Rattle.errors.specs.declared.packet_error.DecodeError.the-variants.{PacketEmptyOrTruncated}
 use Rattle.packet_address_header.specs.declared.MaybeEncoded.the-variants.{Decoded, Encoded}
 use Rattle.packet_address_header.specs.declared.AddressHeader.{AddressHeader}
 use Rattle.packet_common_header.specs.CommonHeader.{hostLength}

@@ -10,16 +10,16 @@ use lib.Seq.{sets, length-sets, length-take-le, take-add}
 use lib.Dec.{ltb, eqb}
 use borrow.Author.Tests.{eqb-true}
 use Rattle.wire_encoding.specs.Result.{ok, orElse}
-use Rattle.wire_encoding.proofs.Results.{held}
+use Rattle.wire_encoding.proofs.Result.{held}
 use Rattle.wire_encoding.specs.BigEndian.{bytesOf, numberAt, part, placed}
-use Rattle.wire_encoding.proofs.Parts.{Bytes, written-after, set-sets}
-use Rattle.wire_encoding.proofs.Numbers.{or-zero-is, length-bytesOf, bytes-read}
+use Rattle.wire_encoding.proofs.Lists.{Bytes, written-after, set-sets}
+use Rattle.wire_encoding.proofs.BigEndian.{or-zero-is, length-bytesOf, bytes-read}
 use Rattle.wire_encoding.proofs.Writes.{placed-is, lent-written}
 use Rattle.address.specs.declared.host.HostAddr.the-variants.{V4, V6, Svc}
-use Rattle.path_error.specs.declared.Encoded.the-variants.{Done}
-use Rattle.path_error.specs.Errors.{encodedOf}
-use Rattle.path_error.proofs.Told.{encoded-ok}
-use Rattle.packet_common_header.proofs.CommonLaws.{host-few}
+use Rattle.errors.specs.declared.packet_error.Encoded.the-variants.{Done}
+use Rattle.errors.specs.Errors.{encodedOf}
+use Rattle.errors.proofs.Errors.{encoded-ok}
+use Rattle.packet_common_header.proofs.CommonHeaderLaws.{host-few}
 use Rattle.packet_address_header.specs.declared.MaybeEncoded.{MaybeEncoded}
 use Rattle.packet_address_header.specs.declared.MaybeEncoded.the-variants as host
 use Rattle.packet_address_header.specs.declared.HostAddress.{HostAddress}

@@ -12,11 +12,11 @@ use Rattle.address.specs.ScionAddress.{addressOf}
 use Rattle.address.specs.declared.ia.IsdAsn.{IsdAsn}
 use Rattle.address.specs.declared.host.HostAddr.the-variants.{V4, V6, Svc}
 use Rattle.address.specs.declared.scion_address.ScionAddr.{ScionAddr}
-use Rattle.path_error.specs.declared.DecodeError.{DecodeError}
-use Rattle.path_error.specs.declared.DecodeError.the-variants.{PacketEmptyOrTruncated}
-use Rattle.path_error.specs.declared.EncodeError.{EncodeError}
-use Rattle.path_error.specs.declared.EncodeError.the-variants.{NumberTooWide, InadequateBufferSize}
-use Rattle.path_error.specs.Errors.{decodedOf}
+use Rattle.errors.specs.declared.packet_error.DecodeError.{DecodeError}
+use Rattle.errors.specs.declared.packet_error.DecodeError.the-variants.{PacketEmptyOrTruncated}
+use Rattle.errors.specs.declared.packet_error.EncodeError.{EncodeError}
+use Rattle.errors.specs.declared.packet_error.EncodeError.the-variants.{NumberTooWide, InadequateBufferSize}
+use Rattle.errors.specs.Errors.{decodedOf}
 use Rattle.packet_common_header.specs.CommonHeader.{hostLength}
 use Rattle.packet_address_header.specs.declared.MaybeEncoded.{MaybeEncoded}
 use Rattle.packet_address_header.specs.declared.MaybeEncoded.the-variants.{Decoded, Encoded}

@@ -1,1 +1,1 @@
-pub mod CommonLaws
+pub mod CommonHeaderLaws

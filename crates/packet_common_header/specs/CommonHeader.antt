@@ -7,13 +7,13 @@ use lib.ListN.{length, getD}
 use lib.Dec.{ltb, leb, eqb}
 use Rattle.wire_encoding.specs.Result.{Result, ok, require, _>>_, orElse}
 use Rattle.wire_encoding.specs.BigEndian.{bigEndian, bytesOf}
-use Rattle.path_error.specs.declared.DecodeError.{DecodeError}
-use Rattle.path_error.specs.declared.DecodeError.the-variants as decode
-use Rattle.path_error.specs.declared.EncodeError.{EncodeError}
-use Rattle.path_error.specs.declared.EncodeError.the-variants as encode
+use Rattle.errors.specs.declared.packet_error.DecodeError.{DecodeError}
+use Rattle.errors.specs.declared.packet_error.DecodeError.the-variants as decode
+use Rattle.errors.specs.declared.packet_error.EncodeError.{EncodeError}
+use Rattle.errors.specs.declared.packet_error.EncodeError.the-variants as encode
 use Rattle.packet_common_header.specs.declared.CommonHeader.{CommonHeader}
 use Rattle.packet_common_header.specs.declared.CommonHeaderRead.{CommonHeaderRead}
-use Rattle.path_error.specs.Errors.{decodedOf}
+use Rattle.errors.specs.Errors.{decodedOf}
 
 -- the fields of the twelve bytes; a host kind is DT and DL, or ST and SL, as one number of 4 bits
 unfoldable pub commonAt : List ℕ → CommonHeader

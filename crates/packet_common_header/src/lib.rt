@@ -1,8 +1,8 @@
 // The common header of a packet, by value: read from bytes, and written as bytes.
-use path_error::DecodeError;
-use path_error::Decoded;
-use path_error::EncodeError;
-use path_error::Encoded;
+use errors::packet_error::DecodeError;
+use errors::packet_error::Decoded;
+use errors::packet_error::EncodeError;
+use errors::packet_error::Encoded;
 use wire_encoding::read::u16_or_zero;
 use wire_encoding::read::u32_or_zero;
 use wire_encoding::read::wide;
@@ -13,7 +13,7 @@ ghost use Prim.Native.Nat.{_≤_, _<_};
 ghost use lib.ListN.{length};
 ghost use Rattle.packet_common_header.specs.CommonHeader as spec;
 ghost use Rattle.wire_encoding.specs.Result.{orElse, refused};
-ghost use Rattle.path_error.specs.Errors.{encodedOf};
+ghost use Rattle.errors.specs.Errors.{encodedOf};
 
 // Every field, whatever its value. The host kinds are of 4 bits, as the version; the flow is of 20.
 pub struct CommonHeader {

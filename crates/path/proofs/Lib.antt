@@ -1,3 +1,3 @@
 pub mod Links
 pub mod Reading
-pub mod SegmentLaws
+pub mod Segment

@@ -10,7 +10,7 @@ use lib.ListN.{length}
 use borrow.Author.Tests.{leb-true, ltb-true, eqb-true, lt-ltb, le-leb}
 use Rattle.wire_encoding.specs.Result.{Result, ok, refused, orElse, refusing}
 use Rattle.wire_encoding.specs.BigEndian.{bigEndian, room}
-use Rattle.wire_encoding.proofs.Results.{not-both, same-value, held, stepped, refusing-ok, either}
+use Rattle.wire_encoding.proofs.Result.{not-both, same-value, held, stepped, refusing-ok, either}
 use Rattle.path_meta_header.specs.MetaHeader.{
   metaOf,
   infoFieldsCount,
@@ -25,12 +25,12 @@ use Rattle.path_meta_header.specs.MetaHeader.{
   hopFieldOffset,
 }
 use Rattle.path_meta_header.specs.declared.PathMetaHeader.{PathMetaHeader}
-use Rattle.path_error.specs.declared.Decoded.the-variants as decoded
-use Rattle.path_error.specs.declared.DecodeError.{DecodeError}
-use Rattle.path_error.specs.declared.Answer.the-variants as answer
-use Rattle.path_error.specs.declared.PathError.{PathError}
-use Rattle.path_error.specs.declared.PathError.the-variants.{Decode}
-use Rattle.path_error.proofs.Told as told
+use Rattle.errors.specs.declared.packet_error.Decoded.the-variants as decoded
+use Rattle.errors.specs.declared.packet_error.DecodeError.{DecodeError}
+use Rattle.errors.specs.declared.path_error.Answer.the-variants as answer
+use Rattle.errors.specs.declared.path_error.PathError.{PathError}
+use Rattle.errors.specs.declared.path_error.PathError.the-variants.{Decode}
+use Rattle.errors.proofs.Errors as told
 use Rattle.path.specs.declared.standard.Part.{Part}
 use Rattle.path.specs.declared.standard.PathRead.{PathRead}
 use Rattle.path.specs.declared.dataplane.PathAnswer.{PathAnswer}
@@ -39,7 +39,7 @@ use Rattle.path.specs.declared.dataplane.Located.{Located}
 use Rattle.path.specs.Standard.{readPath, pathUnder, pathRead}
 use Rattle.path.specs.Segment.{Fields, nowhere, segmentOfPath}
 use Rattle.path.specs.Dataplane.{Extent, headless, readStandard, readDataplane, dataplaneRead, standard, pathAnswer, infoFieldIn, hopFieldIn, segmentIn, located, segment}
-use Rattle.path.proofs.SegmentLaws as segments
+use Rattle.path.proofs.Segment as segments
 
 -- WHAT AN ANSWER SAYS
 

@@ -8,10 +8,10 @@ use Rattle.wire_encoding.specs.Result.{Result, ok, require, andThen, _>>_, _>>=
 use Rattle.wire_encoding.specs.BigEndian.{part}
 use Rattle.path_meta_header.specs.MetaHeader.{metaOf, pathLength, infoFieldOffset, hopFieldOffset}
 use Rattle.path_meta_header.specs.declared.PathMetaHeader.{PathMetaHeader}
-use Rattle.path_error.specs.Errors.{decodedOf, answerOf}
-use Rattle.path_error.specs.declared.DecodeError.{DecodeError}
-use Rattle.path_error.specs.declared.PathError.{PathError}
-use Rattle.path_error.specs.declared.PathError.the-variants.{Decode, NoSuchField}
+use Rattle.errors.specs.Errors.{decodedOf, answerOf}
+use Rattle.errors.specs.declared.packet_error.DecodeError.{DecodeError}
+use Rattle.errors.specs.declared.path_error.PathError.{PathError}
+use Rattle.errors.specs.declared.path_error.PathError.the-variants.{Decode, NoSuchField}
 use Rattle.path.specs.Standard.{pathUnder, readPath}
 use Rattle.path.specs.Segment.{Fields, segmentOfPath, nowhere}
 use Rattle.path.specs.declared.standard.StandardPath.{StandardPath}

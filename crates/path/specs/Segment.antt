@@ -4,8 +4,8 @@ use lib.Dec.{ltb}
 use Rattle.wire_encoding.specs.Result.{Result, ok, require, _>>_}
 use Rattle.path_meta_header.specs.MetaHeader.{infoFieldsCount, firstHopField, segmentLengthOf, infoStart, hopStart}
 use Rattle.path_meta_header.specs.declared.PathMetaHeader.{PathMetaHeader}
-use Rattle.path_error.specs.declared.PathError.{PathError}
-use Rattle.path_error.specs.declared.PathError.the-variants.{NoSuchField}
+use Rattle.errors.specs.declared.path_error.PathError.{PathError}
+use Rattle.errors.specs.declared.path_error.PathError.the-variants.{NoSuchField}
 use Rattle.path.specs.declared.standard.Part.{Part}
 
 -- a segment of a path: its info field, and its run of hop fields

@@ -6,9 +6,9 @@ use lib.Dec.{leb}
 use Rattle.wire_encoding.specs.Result.{Result, ok, require, _>>_, _>>=_, orElse}
 use Rattle.path_meta_header.specs.MetaHeader.{metaOf, pathLength, readMeta}
 use Rattle.path_meta_header.specs.declared.PathMetaHeader.{PathMetaHeader}
-use Rattle.path_error.specs.Errors.{decodedOf}
-use Rattle.path_error.specs.declared.DecodeError.{DecodeError}
-use Rattle.path_error.specs.declared.DecodeError.the-variants.{PacketEmptyOrTruncated}
+use Rattle.errors.specs.Errors.{decodedOf}
+use Rattle.errors.specs.declared.packet_error.DecodeError.{DecodeError}
+use Rattle.errors.specs.declared.packet_error.DecodeError.the-variants.{PacketEmptyOrTruncated}
 use Rattle.path.specs.declared.standard.StandardPath.{StandardPath}
 use Rattle.path.specs.declared.standard.PathRead.{PathRead}
 

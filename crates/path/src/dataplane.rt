@@ -2,10 +2,10 @@
 use crate::standard::Part;
 use crate::standard::StandardPath;
 use crate::standard::segment::Segment;
-use path_error::Answer;
-use path_error::DecodeError;
-use path_error::Decoded;
-use path_error::PathError;
+use errors::packet_error::DecodeError;
+use errors::packet_error::Decoded;
+use errors::path_error::Answer;
+use errors::path_error::PathError;
 use path_fields::HopField;
 use path_fields::InfoField;
 use path_meta_header::Offset;
@@ -14,8 +14,8 @@ ghost use mathlib.Core.Path.{_≡_};
 ghost use lib.ListN.{length, take};
 ghost use Rattle.wire_encoding.specs.Result.{ok, refused, andThen};
 ghost use Rattle.path_meta_header.specs.MetaHeader.{offsetFound};
-ghost use Rattle.path_error.specs.declared.Answer.the-variants as answers;
-ghost use Rattle.path_error.specs.declared.PathError.the-variants as errors;
+ghost use Rattle.errors.specs.declared.path_error.Answer.the-variants as answers;
+ghost use Rattle.errors.specs.declared.path_error.PathError.the-variants as errors;
 ghost use Rattle.path.specs.Dataplane as spec;
 
 // A path that was read by its type: its record, zero unless the type is 1, and how many of the bytes are the path's.

@@ -1,10 +1,10 @@
 // The standard path: a meta header, info fields and hop fields, read from bytes.
-use path_error::DecodeError;
-use path_error::Decoded;
+use errors::packet_error::DecodeError;
+use errors::packet_error::Decoded;
 use path_meta_header::PathMetaHeader;
 ghost use mathlib.Core.Path.{_≡_};
 ghost use Rattle.wire_encoding.specs.Result.{refused};
-ghost use Rattle.path_error.specs.declared.Decoded.the-variants as decoded;
+ghost use Rattle.errors.specs.declared.packet_error.Decoded.the-variants as decoded;
 ghost use Rattle.path_meta_header.specs.MetaHeader.{metaOf};
 ghost use Rattle.path.specs.Standard as spec;
 

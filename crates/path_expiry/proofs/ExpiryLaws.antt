@@ -8,16 +8,16 @@ use native.Mathlib.Omega.{arith}
 use lib.ListN.{length, getD}
 use Rattle.wire_encoding.specs.Result.{Result, ok, refused, orElse}
 use Rattle.wire_encoding.specs.BigEndian.{bigEndian, part}
-use Rattle.wire_encoding.proofs.Parts.{length-part, getD-part}
+use Rattle.wire_encoding.proofs.Lists.{length-part, getD-part}
 use Rattle.path_meta_header.specs.MetaHeader.{metaOf, infoFieldsCount, firstHopField, segmentLengthOf, pathLength, infoStart, hopStart}
 use Rattle.path_fields.specs.Fields.{infoFieldAt, hopFieldAt, expiryOffset, expiryTime}
 use Rattle.path_meta_header.specs.declared.PathMetaHeader.{PathMetaHeader}
 use Rattle.path.specs.Standard.{pathUnder}
-use Rattle.path.proofs.SegmentLaws.{inside}
+use Rattle.path.proofs.Segment.{inside}
 use Rattle.path_expiry.specs.Expiry.{least, expTimeAt, hopExpiry, segmentExpiry, expiryFound}
-use Rattle.path_error.specs.declared.Answer.the-variants as answer
-use Rattle.path_error.specs.declared.PathError.{PathError}
-use Rattle.path_error.proofs.Told as told
+use Rattle.errors.specs.declared.path_error.Answer.the-variants as answer
+use Rattle.errors.specs.declared.path_error.PathError.{PathError}
+use Rattle.errors.proofs.Errors as told
 use Rattle.path_expiry.specs.declared.Expiry.{Expiry}
 
 -- one more number, as a loop takes it

@@ -8,9 +8,9 @@ use Rattle.wire_encoding.specs.Result.{Result, ok, require, _>>_, _>>=_, orElse
 use Rattle.path_meta_header.specs.MetaHeader.{infoFieldsCount, firstHopField, segmentLengthOf, infoStart, hopStart}
 use Rattle.path_meta_header.specs.declared.PathMetaHeader.{PathMetaHeader}
 use Rattle.path_fields.specs.Fields.{infoFieldAt, hopFieldAt, expiryTime}
-use Rattle.path_error.specs.Errors.{answerOf}
-use Rattle.path_error.specs.declared.PathError.{PathError}
-use Rattle.path_error.specs.declared.PathError.the-variants.{NoSuchField, NumberTooWide}
+use Rattle.errors.specs.Errors.{answerOf}
+use Rattle.errors.specs.declared.path_error.PathError.{PathError}
+use Rattle.errors.specs.declared.path_error.PathError.the-variants.{NoSuchField, NumberTooWide}
 use Rattle.path.specs.Dataplane.{standard, beside}
 use Rattle.path_expiry.specs.declared.Expiry.{Expiry}
 use Rattle.path_expiry.specs.declared.TimeLeft.{TimeLeft}

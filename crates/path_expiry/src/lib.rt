@@ -1,8 +1,8 @@
 // How long a path is valid: the expiry of its segments and of the whole path, and the time left.
+use errors::path_error::Answer;
+use errors::path_error::PathError;
 use path::dataplane::DataplanePath;
 use path::standard::StandardPath;
-use path_error::Answer;
-use path_error::PathError;
 use path_fields::HopField;
 use path_fields::InfoField;
 use path_fields::expiry;
@@ -15,7 +15,7 @@ ghost use lib.IntN.{subℕ};
 ghost use Rattle.wire_encoding.specs.BigEndian.{bigEndian};
 ghost use Rattle.wire_encoding.specs.Result.{refused};
 ghost use Rattle.path_meta_header.specs.MetaHeader as meta;
-ghost use Rattle.path_error.specs.declared.Answer.the-variants as answers;
+ghost use Rattle.errors.specs.declared.path_error.Answer.the-variants as answers;
 ghost use Rattle.path.specs.Dataplane.{standard};
 ghost use Rattle.path_expiry.specs.Expiry as spec;
 

@@ -4,7 +4,7 @@ use mathlib.Core.Bool.{Bool, cond}
 use mathlib.Core.List.{List}
 use lib.ListN.{length, getD, replicate}
 use lib.Dec.{eqb}
-use Rattle.bits.specs.Bits.{bitOf, withBit}
+use Rattle.wire_encoding.specs.Bits.{bitOf, withBit}
 use Rattle.wire_encoding.specs.BigEndian.{bigEndian, part}
 use Rattle.path_fields.specs.declared.InfoField.{InfoField}
 use Rattle.path_fields.specs.declared.InfoFieldRead.{InfoFieldRead}
@@ -12,8 +12,8 @@ use Rattle.path_fields.specs.declared.HopField.{HopField}
 use Rattle.path_fields.specs.declared.HopFieldRead.{HopFieldRead}
 use Rattle.path_fields.specs.declared.Interface.{Interface}
 use Rattle.path_fields.specs.declared.Interface.the-variants as interface
-use Rattle.path_error.specs.declared.Answer.the-variants.{Accepted, Refused}
-use Rattle.path_error.specs.declared.PathError.the-variants.{InadequateBufferSize}
+use Rattle.errors.specs.declared.path_error.Answer.the-variants.{Accepted, Refused}
+use Rattle.errors.specs.declared.path_error.PathError.the-variants.{InadequateBufferSize}
 
 -- the info field at `at`: flags, RSV, Acc (2 bytes), Timestamp (4 bytes, seconds)
 unfoldable pub infoFieldAt : List ℕ → ℕ → InfoField

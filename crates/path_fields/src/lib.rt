@@ -1,13 +1,13 @@
 // The info fields and hop fields of a standard path, read from parts of exactly 8 and 12 bytes.
-use bits::flags::with_bit_0;
-use bits::flags::with_bit_1;
-use path_error::Answer;
-use path_error::PathError;
+use errors::path_error::Answer;
+use errors::path_error::PathError;
+use wire_encoding::flags::with_bit_0;
+use wire_encoding::flags::with_bit_1;
 use wire_encoding::read::u16_or_zero;
 use wire_encoding::read::u32_or_zero;
 ghost use mathlib.Core.Path.{_≡_};
 ghost use Prim.Native.Nat.{_+_, _≤_};
-ghost use Rattle.bits.specs.Bits.{bitOf};
+ghost use Rattle.wire_encoding.specs.Bits.{bitOf};
 ghost use Rattle.path_fields.specs.Fields as spec;
 
 // The head of a segment.

@@ -6,14 +6,14 @@ use mathlib.Core.List.{List, [], _∷_, _++_}
 use lib.ListN.{replicate, take}
 use Rattle.wire_encoding.specs.BigEndian.{bigEndian, room}
 use Rattle.wire_encoding.specs.Result.{refused, orElse}
-use Rattle.path_error.specs.declared.PathError.the-variants.{Decode, NoSuchField}
-use Rattle.path_error.specs.declared.DecodeError.the-variants.{PacketEmptyOrTruncated}
+use Rattle.errors.specs.declared.path_error.PathError.the-variants.{Decode, NoSuchField}
+use Rattle.errors.specs.declared.packet_error.DecodeError.the-variants.{PacketEmptyOrTruncated}
 use Rattle.path.specs.Segment.{nowhere}
 use Rattle.path_meta_header.specs.MetaHeader as meta
 use Rattle.path.specs.Standard as standard
 use Rattle.path.specs.Dataplane as dataplane
 use Rattle.path_hop_fields.specs.PathRuns as runs
-use Rattle.hop_fields.proofs.Examples.{a, b, c}
+use Rattle.path_hop_fields.proofs.RunExamples.{a, b, c}
 
 -- a path of a segment with one of them and a segment with the others, and a byte that follows it
 abbrev path : List ℕ

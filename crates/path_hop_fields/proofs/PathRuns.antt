@@ -9,17 +9,17 @@ use lib.Dec.{ltb}
 use borrow.Author.Tests.{ltb-true, lt-ltb}
 use Rattle.wire_encoding.specs.Result.{Result, ok, orElse}
 use Rattle.wire_encoding.specs.BigEndian.{part}
-use Rattle.wire_encoding.proofs.Parts.{length-part, part-part}
-use Rattle.wire_encoding.proofs.Results.{held}
+use Rattle.wire_encoding.proofs.Lists.{length-part, part-part}
+use Rattle.wire_encoding.proofs.Result.{held}
 use Rattle.path_meta_header.specs.MetaHeader.{infoFieldsCount, hopFieldsCount, firstHopField, segmentLengthOf, pathLength, hopFieldOffset, hopStart}
 use Rattle.path_meta_header.specs.declared.PathMetaHeader.{PathMetaHeader}
-use Rattle.path_error.specs.declared.PathError.{PathError}
+use Rattle.errors.specs.declared.path_error.PathError.{PathError}
 use Rattle.path.specs.Segment.{Fields, nowhere, segmentOfPath}
 use Rattle.path.specs.Dataplane.{standard, segmentIn, hopFieldIn, partIn}
 use Rattle.path.specs.declared.standard.Part.{Part}
-use Rattle.path.proofs.SegmentLaws.{segment-within}
+use Rattle.path.proofs.Segment.{segment-within}
 use Rattle.path.proofs.Reading.{standard-readable}
-use Rattle.hop_fields.specs.Run.{count}
+use Rattle.path_hop_fields.specs.Run.{count}
 use Rattle.path_hop_fields.specs.PathRuns.{hopFieldsIn, Run, SegmentRuns, PathRuns}
 
 -- a path that was read, of which n hop fields are looked at, hop field `at` and those that follow

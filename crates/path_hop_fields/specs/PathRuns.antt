@@ -5,11 +5,11 @@ use mathlib.Core.List.{List}
 use Rattle.wire_encoding.specs.Result.{Result, ok, _>>=_, orElse}
 use Rattle.path_meta_header.specs.MetaHeader.{hopFieldsCount, firstHopField, segmentLengthOf, hopStart}
 use Rattle.path_meta_header.specs.declared.PathMetaHeader.{PathMetaHeader}
-use Rattle.path_error.specs.declared.PathError.{PathError}
+use Rattle.errors.specs.declared.path_error.PathError.{PathError}
 use Rattle.path.specs.Segment.{Fields, nowhere}
 use Rattle.path.specs.Dataplane.{standard, segmentIn, hopFieldIn, partIn}
 use Rattle.path.specs.declared.standard.Part.{Part}
-use Rattle.hop_fields.specs.Run.{count, hopField}
+use Rattle.path_hop_fields.specs.Run.{count, hopField}
 
 -- where all hop fields of a standard path lie: reading, then 8 for every other type
 unfoldable pub hopFieldsIn : ℕ → List ℕ → Result PathError Part

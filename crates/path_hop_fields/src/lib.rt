@@ -1,7 +1,10 @@
-// The hop fields of a standard path, all of them, as a run.
+// Runs of hop fields, read from either end: functions on their bytes, the view that holds them, and the run that a path's hop fields are.
+pub mod run;
+pub mod view;
+
+use errors::path_error::Answer;
 use path::dataplane::DataplanePath;
 use path::dataplane::Located;
-use path_error::Answer;
 use path_fields::HopField;
 use path_fields::InfoField;
 use path_meta_header::PathMetaHeader;

@@ -1,1 +1,1 @@
-pub mod InterfaceLaws
+pub mod Interfaces

@@ -5,14 +5,14 @@ use mathlib.Core.List.{List}
 use lib.ListN.{length, getD, set}
 use lib.Dec.{eqb}
 use Rattle.wire_encoding.specs.Result.{Result, ok, _>>=_, orElse}
-use Rattle.bits.specs.Bits.{withBit}
+use Rattle.wire_encoding.specs.Bits.{withBit}
 use Rattle.path_meta_header.specs.MetaHeader.{infoFieldsCount, segmentOf, interfacesCount, hopFieldOf, infoStart, hopStart}
 use Rattle.path_meta_header.specs.declared.PathMetaHeader.{PathMetaHeader}
 use Rattle.path_fields.specs.Fields.{infoFieldAt, hopFieldAt, ingressInterface, egressInterface}
 use Rattle.path_fields.specs.declared.Interface.{Interface}
 use Rattle.path_fields.specs.declared.Interface.the-variants as interface
-use Rattle.path_error.specs.Errors.{answerOf}
-use Rattle.path_error.specs.declared.PathError.{PathError}
+use Rattle.errors.specs.Errors.{answerOf}
+use Rattle.errors.specs.declared.path_error.PathError.{PathError}
 use Rattle.path.specs.Dataplane.{standard, beside, hopFieldIn, Written}
 use Rattle.path_interfaces.specs.declared.InterfaceCount.{InterfaceCount}
 use Rattle.path_interfaces.specs.declared.InterfaceAt.{InterfaceAt}

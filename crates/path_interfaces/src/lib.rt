@@ -1,24 +1,24 @@
 // The interfaces of a path in the order of travel, and the alert flags of its hop fields.
-use bits::flags::with_bit_0;
-use bits::flags::with_bit_1;
+use errors::path_error::Answer;
+use errors::path_error::PathError;
 use path::dataplane::DataplanePath;
 use path::dataplane::PathAnswer;
 use path::standard::StandardPath;
-use path_error::Answer;
-use path_error::PathError;
 use path_fields::HopField;
 use path_fields::InfoField;
 use path_fields::Interface;
 use path_meta_header::HopFieldOf;
 use path_meta_header::PathMetaHeader;
+use wire_encoding::flags::with_bit_0;
+use wire_encoding::flags::with_bit_1;
 ghost use mathlib.Core.Path.{_≡_};
 ghost use mathlib.Core.Bool.{true, cond};
 ghost use Prim.Native.Nat.{_≤_};
 ghost use lib.ListN.{length};
 ghost use Rattle.wire_encoding.specs.Result.{ok, refused};
-ghost use Rattle.bits.specs.Bits.{withBit};
+ghost use Rattle.wire_encoding.specs.Bits.{withBit};
 ghost use Rattle.path_meta_header.specs.MetaHeader as meta;
-ghost use Rattle.path_error.specs.declared.Answer.the-variants as answers;
+ghost use Rattle.errors.specs.declared.path_error.Answer.the-variants as answers;
 ghost use Rattle.path.specs.Dataplane.{standard, writtenAnswer, contents};
 ghost use Rattle.path_interfaces.specs.Interfaces as spec;
 

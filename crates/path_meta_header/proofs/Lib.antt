@@ -1,1 +1,4 @@
-pub mod MetaLaws
+pub mod MetaHeader
+pub mod Encoding
+pub mod EncodingRead
+pub mod Reversal

@@ -1,1 +1,3 @@
 pub mod MetaHeader
+pub mod Encoding
+pub mod Reversal

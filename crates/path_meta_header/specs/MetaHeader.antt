@@ -12,12 +12,12 @@ use Rattle.path_meta_header.specs.declared.Offset.{Offset}
 use Rattle.path_meta_header.specs.declared.Offset.the-variants as offset
 use Rattle.path_meta_header.specs.declared.HopFieldOf.{HopFieldOf}
 use Rattle.path_meta_header.specs.declared.HopFieldOf.the-variants as hop
-use Rattle.path_error.specs.Errors.{decodedOf}
-use Rattle.path_error.specs.declared.PathError.{PathError}
-use Rattle.path_error.specs.declared.PathError.the-variants as error
-use Rattle.path_error.specs.declared.DecodeError.{DecodeError}
-use Rattle.path_error.specs.declared.DecodeError.the-variants.{PacketEmptyOrTruncated, InvalidPath}
-use Rattle.path_error.specs.declared.DataplanePathErrorKind.the-variants.{
+use Rattle.errors.specs.Errors.{decodedOf}
+use Rattle.errors.specs.declared.path_error.PathError.{PathError}
+use Rattle.errors.specs.declared.path_error.PathError.the-variants as error
+use Rattle.errors.specs.declared.packet_error.DecodeError.{DecodeError}
+use Rattle.errors.specs.declared.packet_error.DecodeError.the-variants.{PacketEmptyOrTruncated, InvalidPath}
+use Rattle.errors.specs.declared.path_error.DataplanePathErrorKind.the-variants.{
   InvalidSegmentLengths,
   InfoFieldOutOfRange,
   HopFieldOutOfRange,

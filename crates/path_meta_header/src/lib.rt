@@ -1,15 +1,42 @@
-// The meta header of a standard path, by value.
-use path_error::DataplanePathErrorKind;
-use path_error::DecodeError;
-use path_error::Decoded;
+// The meta header of a standard path, by value: read, written, reversed.
+use errors::packet_error::DecodeError;
+use errors::packet_error::Decoded;
+use errors::packet_error::EncodeError;
+use errors::packet_error::Encoded;
+use errors::path_error::DataplanePathErrorKind;
+use wire_encoding::bounded::NewU2;
+use wire_encoding::bounded::NewU6;
+use wire_encoding::bounded::U2;
+use wire_encoding::bounded::U6;
 use wire_encoding::read::Read32;
 use wire_encoding::read::get_u32;
 use wire_encoding::read::wide;
+use wire_encoding::write::put_u32;
 ghost use mathlib.Core.Path.{_≡_};
 ghost use Prim.Native.Nat.{_≤_, _<_};
-ghost use Rattle.wire_encoding.specs.Result.{refused};
-ghost use Rattle.path_error.specs.declared.DecodeError.the-variants.{InvalidPath};
+ghost use mathlib.Core.List.{_∷_, []};
+ghost use lib.ListN.{length};
+ghost use Rattle.wire_encoding.specs.Result.{refused, orElse};
+ghost use Rattle.errors.specs.Errors.{encodedOf};
+ghost use Rattle.errors.specs.declared.packet_error.DecodeError.the-variants.{InvalidPath};
 ghost use Rattle.path_meta_header.specs.MetaHeader as spec;
+ghost use Rattle.path_meta_header.specs.Encoding as encoding;
+ghost use Rattle.path_meta_header.specs.Reversal as reversal;
+
+// A 2-bit index into the info fields.
+pub type InfoFieldIndex = U2;
+// A 6-bit index into the hop fields.
+pub type HopFieldIndex = U6;
+// A 6-bit count of the hop fields of a segment.
+pub type SegmentLength = U6;
+// The 6 bits of a meta header that mean nothing yet.
+pub type PathMetaReserved = U6;
+
+// A header as one number, or a field wider than its bits.
+pub enum Word {
+    Value(u32),
+    TooWide,
+}
 
 // The pointers, the reserved bits and the three segment lengths. Each may hold any byte: writing one tests their widths.
 pub struct PathMetaHeader {
@@ -43,6 +70,38 @@ fn nth_field(fields: u32, n: u32) -> u8
     ensures { λ r. ⌜ r ≡ spec.nthField fields n ⌝ }
 {
     ((fields >> ((5 - n) * 6)) % 64) as u8
+}
+
+// Whether a number has at most 2 bits.
+fn fits_2(number: u8) -> bool
+    ensures { λ r. ⌜ r ≡ encoding.fits 2 number ⌝ }
+{
+    match InfoFieldIndex::new(number) {
+        NewU2::Value(_) => true,
+        NewU2::TooWide => false,
+    }
+}
+
+// Whether a number has at most 6 bits.
+fn fits_6(number: u8) -> bool
+    ensures { λ r. ⌜ r ≡ encoding.fits 6 number ⌝ }
+{
+    match HopFieldIndex::new(number) {
+        NewU6::Value(_) => true,
+        NewU6::TooWide => false,
+    }
+}
+
+// The header of a path of these lengths, its pointers at the start.
+fn at_start(first: u8, second: u8, third: u8) -> PathMetaHeader
+    ensures { λ r. ⌜ r ≡ reversal.atStart (first ∷ second ∷ third ∷ []) ⌝ }
+{
+    PathMetaHeader {
+        current_info_field: 0,
+        current_hop_field: 0,
+        reserved: 0,
+        segment_lengths: [first, second, third],
+    }
 }
 
 impl PathMetaHeader {
@@ -272,6 +331,87 @@ impl PathMetaHeader {
             Read32::Value(fields) => PathMetaHeader::from_u32(fields).check(),
             Read32::Truncated => MetaRead::refused(DecodeError::PacketEmptyOrTruncated),
         }
+    }
+
+    // WRITING, AND THE REVERSED PATH
+
+    // Whether each number fits its field.
+    fn fields_fit(self) -> bool
+        ensures { λ r. ⌜ r ≡ encoding.metaFits self ⌝ }
+    {
+        let lengths = self.segment_lengths;
+        if !fits_2(self.current_info_field) {
+            return false;
+        }
+        if !fits_6(self.current_hop_field) {
+            return false;
+        }
+        if !fits_6(self.reserved) {
+            return false;
+        }
+        if !fits_6(lengths[0]) {
+            return false;
+        }
+        if !fits_6(lengths[1]) {
+            return false;
+        }
+        fits_6(lengths[2])
+    }
+
+    // The header as one number.
+    pub fn as_u32(self) -> Word
+        ensures { λ r. ⌜ encoding.answerWord r ≡ encoding.asWord self ⌝ }
+    {
+        let lengths = self.segment_lengths;
+        if self.fields_fit() {
+            let info = wide(self.current_info_field);
+            let hop = wide(self.current_hop_field);
+            let reserved = wide(self.reserved);
+            let first = wide(lengths[0]);
+            let second = wide(lengths[1]);
+            let third = wide(lengths[2]);
+            let number = ((((info * 64 + hop) * 64 + reserved) * 64 + first) * 64 + second) * 64
+                + third;
+            return Word::Value(number as u32);
+        }
+        Word::TooWide
+    }
+
+    // Writes the header to a destination of exactly 4 bytes.
+    pub fn encode_to(self, dst: &mut [u8]) -> Encoded
+        ensures { λ r. ⌜ r ≡ encodedOf (encoding.writeMeta self (length (now (dst .entry)))) ⌝ }
+        ensures { λ _. ⌜ now (dst .exit) ≡ orElse (encoding.writeMeta self (length (now (dst .entry)))) (now (dst .entry)) ⌝ }
+    {
+        match self.as_u32() {
+            Word::Value(number) => {
+                if dst.len() == PathMetaHeader::LENGTH {
+                    put_u32(dst, 0, number);
+                    return Encoded::Done;
+                }
+                Encoded::Refused(EncodeError::InadequateBufferSize)
+            }
+            Word::TooWide => Encoded::Refused(EncodeError::NumberTooWide),
+        }
+    }
+
+    // The header of the reversed path: pointers and reserved bits zero, the I lengths in opposite order.
+    pub fn to_reversed(self) -> PathMetaHeader
+        ensures { λ r. ⌜ r ≡ reversal.reversedMeta self ⌝ }
+    {
+        let lengths = self.segment_lengths;
+        let first = lengths[0];
+        let second = lengths[1];
+        let third = lengths[2];
+        if first == 0 {
+            return at_start(0, 0, 0);
+        }
+        if second == 0 {
+            return at_start(first, 0, 0);
+        }
+        if third == 0 {
+            return at_start(second, first, 0);
+        }
+        at_start(third, second, first)
     }
 }
 

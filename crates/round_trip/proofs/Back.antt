@@ -8,18 +8,18 @@ use mathlib.Core.List.{List}
 use native.Mathlib.Omega.{arith}
 use lib.Dec.{eqb}
 use borrow.Author.Tests.{eqb-true, eqb-false, eq-eqb, ne-eqb}
-use Rattle.bits.specs.Bits.{bitOf, withBit}
+use Rattle.wire_encoding.specs.Bits.{bitOf, withBit}
 use Rattle.wire_encoding.specs.BigEndian.{bigEndian, part}
-use Rattle.wire_encoding.proofs.Numbers.{read-part}
+use Rattle.wire_encoding.proofs.BigEndian.{read-part}
 use Rattle.path_meta_header.specs.MetaHeader.{segmentLength, infoFieldsCount, hopFieldsCount, segmentOf, infoStart, hopStart}
 use Rattle.path_fields.specs.Fields.{infoFieldAt, withConstructedDir}
 use Rattle.path_meta_header.specs.declared.PathMetaHeader.{PathMetaHeader}
-use Rattle.meta_header_reversal.specs.Reversal.{reversedLengths}
+use Rattle.path_meta_header.specs.Reversal.{reversedLengths}
 use Rattle.path_fields.specs.declared.InfoField.{InfoField}
 use Rattle.path.proofs.Links.{segment-below}
-use Rattle.moves.specs.Moves.{atPosition, changeInside, codeOf, moveBytes, moveFrom, movedMeta, positionOf}
-use Rattle.move_rules.specs.Rules.{flagsAt, ownerOf, spared}
-use Rattle.moves.proofs.Laws.{counts-kept}
+use Rattle.path_moves.specs.Moves.{atPosition, changeInside, codeOf, moveBytes, moveFrom, movedMeta, positionOf}
+use Rattle.path_moves.specs.Rules.{flagsAt, ownerOf, spared}
+use Rattle.path_moves.proofs.Moves.{counts-kept}
 use Rattle.round_trip.proofs.Xor.{xor-back}
 use Rattle.round_trip.proofs.Fields.{Spells, same-path}
 use Rattle.round_trip.proofs.Shape.{turnedMeta, mirrorMeta, rows-first}

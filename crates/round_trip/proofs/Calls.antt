@@ -10,17 +10,17 @@ use borrow.Author.Tests.{lt-ltb, le-ltb, eq-eqb, ne-eqb}
 use Rattle.wire_encoding.specs.Result.{ok, refused}
 use Rattle.path_meta_header.specs.MetaHeader.{hopFieldsCount, pathLength}
 use Rattle.path_meta_header.specs.declared.PathMetaHeader.{PathMetaHeader}
-use Rattle.meta_header_reversal.specs.Reversal.{reversedMeta}
-use Rattle.path_error.specs.declared.PathError.the-variants.{AtLastHopField, InadequateBufferSize}
+use Rattle.path_meta_header.specs.Reversal.{reversedMeta}
+use Rattle.errors.specs.declared.path_error.PathError.the-variants.{AtLastHopField, InadequateBufferSize}
 use Rattle.path.specs.Dataplane.{standard}
 use Rattle.path.proofs.Reading.{standard-readable, standard-read, path-read}
-use Rattle.path_copy.specs.Copy.{filled}
-use Rattle.reverse.specs.Reverse.{reversedPath, reverse}
-use Rattle.reverse.proofs.Laws.{length-reversedPath}
-use Rattle.moves.specs.Moves.{iterate, move, moved, notLast, walkMoves, walked}
-use Rattle.moves.proofs.Sums.{Made, walk-made}
-use Rattle.move_rules.specs.Rules.{movable}
-use Rattle.move_rules.proofs.Known.{known-movable}
+use Rattle.path_reverse.specs.Copy.{filled}
+use Rattle.path_reverse.specs.Reverse.{reversedPath, reverse}
+use Rattle.path_reverse.proofs.Reverse.{length-reversedPath}
+use Rattle.path_moves.specs.Moves.{iterate, move, moved, notLast, walkMoves, walked}
+use Rattle.path_moves.proofs.Sums.{Made, walk-made}
+use Rattle.path_moves.specs.Rules.{movable}
+use Rattle.path_moves.proofs.Rules.{known-movable}
 use Rattle.round_trip.specs.RoundTrip.{metaHeaderOf, Begun}
 use Rattle.round_trip.proofs.Mirror.{Path}
 

@@ -11,22 +11,22 @@ use lib.Dec.{ltb, leb, eqb}
 use lib.ListN.{length, getD, take, replicate}
 use borrow.Author.Tests.{ltb-true, leb-true, eqb-true}
 use Rattle.wire_encoding.specs.BigEndian.{bigEndian, bytesOf, room}
-use Rattle.bits.specs.Bits.{withBit}
+use Rattle.wire_encoding.specs.Bits.{withBit}
 use Rattle.path_meta_header.specs.MetaHeader as meta
-use Rattle.meta_header_reversal.specs.Reversal as reversal
-use Rattle.meta_header_encoding.specs.Encoding as encoding
+use Rattle.path_meta_header.specs.Reversal as reversal
+use Rattle.path_meta_header.specs.Encoding as encoding
 use Rattle.path_fields.specs.Fields as fields
 use Rattle.path_fields.specs.declared.Interface.the-variants.{Id}
-use Rattle.path_error.specs.Errors.{answerOf}
-use Rattle.path_error.proofs.Told.{answer-ok}
-use Rattle.path_error.specs.declared.Answer.{Answer}
-use Rattle.path_error.specs.declared.Answer.the-variants.{Accepted}
+use Rattle.errors.specs.Errors.{answerOf}
+use Rattle.errors.proofs.Errors.{answer-ok}
+use Rattle.errors.specs.declared.path_error.Answer.{Answer}
+use Rattle.errors.specs.declared.path_error.Answer.the-variants.{Accepted}
 use Rattle.path.specs.Standard as standard
 use Rattle.path.specs.Dataplane as dataplane
-use Rattle.path_copy.specs.Copy as copy
-use Rattle.moves.specs.Moves as moves
-use Rattle.move_rules.specs.Rules as rules
-use Rattle.reverse.specs.Reverse as reverse
+use Rattle.path_reverse.specs.Copy as copy
+use Rattle.path_moves.specs.Moves as moves
+use Rattle.path_moves.specs.Rules as rules
+use Rattle.path_reverse.specs.Reverse as reverse
 use Rattle.round_trip.specs.RoundTrip as round
 use Rattle.round_trip.specs.RoundTrip.{
   Begun,

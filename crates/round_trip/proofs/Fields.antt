@@ -11,14 +11,14 @@ use lib.ListN.{length, getD}
 use lib.Seq.{ext-getD}
 use borrow.Author.Tests.{ltb-true, ltb-false}
 use Rattle.wire_encoding.specs.BigEndian.{bigEndian, bytesOf, part}
-use Rattle.wire_encoding.proofs.Parts.{Bytes, getD-part}
-use Rattle.wire_encoding.proofs.Numbers.{below, bytes-read}
+use Rattle.wire_encoding.proofs.Lists.{Bytes, getD-part}
+use Rattle.wire_encoding.proofs.BigEndian.{below, bytes-read}
 use Rattle.path_meta_header.specs.MetaHeader.{metaOf, infoFieldsCount, hopFieldsCount, pathLength, infoStart, hopStart}
-use Rattle.meta_header_encoding.specs.Encoding.{wordOf}
+use Rattle.path_meta_header.specs.Encoding.{wordOf}
 use Rattle.path_fields.specs.Fields.{infoFieldAt}
 use Rattle.path_meta_header.specs.declared.PathMetaHeader.{PathMetaHeader}
 use Rattle.path_fields.specs.declared.InfoField.{InfoField}
-use Rattle.meta_header_encoding.proofs.EncodingLaws.{word-back}
+use Rattle.path_meta_header.proofs.Encoding.{word-back}
 
 -- whether a < b
 pub by-lt : {P : Type 0} (a b : ℕ) → (a < b → P) → (b ≤ a → P) → P

@@ -12,9 +12,9 @@ use lib.ListN.{length, set, getElem?}
 use borrow.Author.Tests.{eqb-true, eqb-false}
 use Rattle.path_meta_header.specs.MetaHeader.{hopFieldsCount, pathLength}
 use Rattle.path_meta_header.specs.declared.PathMetaHeader.{PathMetaHeader}
-use Rattle.moves.specs.Moves as moves
+use Rattle.path_moves.specs.Moves as moves
 use Rattle.wire_encoding.specs.Result.{told}
-use Rattle.reverse.specs.Reverse.{reverse}
+use Rattle.path_reverse.specs.Reverse.{reverse}
 use Rattle.round_trip.specs.RoundTrip.{
   turned,
   End,

@@ -7,7 +7,7 @@ use mathlib.Core.Bool.{Bool, true, false, not, cond}
 use mathlib.Core.List.{List}
 use native.Mathlib.Omega.{arith}
 use lib.ListN.{length}
-use Rattle.bits.specs.Bits.{bitOf}
+use Rattle.wire_encoding.specs.Bits.{bitOf}
 use Rattle.wire_encoding.specs.BigEndian.{part}
 use Rattle.path_meta_header.specs.MetaHeader.{infoFieldsCount, hopFieldsCount, segmentOf, infoStart, hopStart}
 use Rattle.path_fields.specs.Fields.{
@@ -22,9 +22,9 @@ use Rattle.path_fields.specs.Fields.{
 use Rattle.path_meta_header.specs.declared.PathMetaHeader.{PathMetaHeader}
 use Rattle.path_fields.specs.declared.InfoField.{InfoField}
 use Rattle.path_fields.specs.declared.HopField.{HopField}
-use Rattle.path_fields.proofs.FieldLaws.{hop-of-part}
+use Rattle.path_fields.proofs.Fields.{hop-of-part}
 use Rattle.path.proofs.Links.{segment-below}
-use Rattle.moves.specs.Moves.{atPosition}
+use Rattle.path_moves.specs.Moves.{atPosition}
 use Rattle.path.proofs.Reading.{standard-read}
 use Rattle.round_trip.specs.RoundTrip.{metaHeaderOf, Meeting, infoOf, meeting, met, accumulatorBy, byPath, exchanged}
 use Rattle.round_trip.proofs.Shape.{turnedMeta, mirrorMeta}

@@ -9,20 +9,20 @@ use native.Mathlib.Omega.{arith}
 use lib.Dec.{ltb, eqb}
 use lib.ListN.{length}
 use borrow.Author.Tests.{lt-ltb, eq-eqb, ltb-true, eqb-true, eqb-false}
-use Rattle.bits.specs.Bits.{bitOf, withBit}
+use Rattle.wire_encoding.specs.Bits.{bitOf, withBit}
 use Rattle.wire_encoding.specs.BigEndian.{bigEndian, part}
-use Rattle.bits.proofs.BitLaws.{bit-kept}
-use Rattle.wire_encoding.proofs.Parts.{Bytes}
+use Rattle.wire_encoding.proofs.Bits.{bit-kept}
+use Rattle.wire_encoding.proofs.Lists.{Bytes}
 use Rattle.path_meta_header.specs.MetaHeader.{nthField, metaOf, segmentLength, infoFieldsCount, hopFieldsCount, pathLength, segmentOf, hopValid, infoStart, hopStart}
-use Rattle.meta_header_reversal.specs.Reversal.{atStart, reversedMeta}
-use Rattle.meta_header_reversal.proofs.ReversalLaws.{rowOf, row-is}
+use Rattle.path_meta_header.specs.Reversal.{atStart, reversedMeta}
+use Rattle.path_meta_header.proofs.Reversal.{rowOf, row-is}
 use Rattle.path_fields.specs.Fields.{infoFieldAt, withConstructedDir}
 use Rattle.path_meta_header.specs.declared.PathMetaHeader.{PathMetaHeader}
 use Rattle.path_fields.specs.declared.InfoField.{InfoField}
-use Rattle.meta_header_encoding.proofs.EncodingLaws.{Fitting}
-use Rattle.reverse.specs.Reverse.{reversedPath}
-use Rattle.move_rules.specs.Rules.{flagsAt, peerings, peeringAllowed}
-use Rattle.move_rules.proofs.Known.{Known}
+use Rattle.path_meta_header.proofs.Encoding.{Fitting}
+use Rattle.path_reverse.specs.Reverse.{reversedPath}
+use Rattle.path_moves.specs.Rules.{flagsAt, peerings, peeringAllowed}
+use Rattle.path_moves.proofs.Rules.{Known}
 use Rattle.round_trip.proofs.Fields.{by-lt, Spells, same-path}
 use Rattle.round_trip.proofs.Shape.{
   turnedMeta,

@@ -12,18 +12,18 @@ use lib.ListN.{length, getD, set, length-set}
 use lib.Seq.{ext-getD, getD-set-other}
 use borrow.Author.Tests.{eqb-true, eqb-false}
 use Rattle.wire_encoding.specs.BigEndian.{bigEndian, bytesOf, part}
-use Rattle.wire_encoding.proofs.Parts.{length-part, getD-part}
-use Rattle.wire_encoding.proofs.Numbers.{below, read-written}
+use Rattle.wire_encoding.proofs.Lists.{length-part, getD-part}
+use Rattle.wire_encoding.proofs.BigEndian.{below, read-written}
 use Rattle.path_meta_header.specs.MetaHeader.{segmentLength, infoFieldsCount, hopFieldsCount, pathLength, segmentOf, infoStart, hopStart}
 use Rattle.path_fields.specs.Fields.{infoFieldAt}
 use Rattle.path_meta_header.specs.declared.PathMetaHeader.{PathMetaHeader}
 use Rattle.path_fields.specs.declared.InfoField.{InfoField}
-use Rattle.moves.specs.declared.Moved.{Moved}
-use Rattle.moves.specs.Moves.{CanMove, atPosition, applied, changeInside, codeOf, moveBytes, moveFrom, movedMeta, positionOf}
-use Rattle.move_rules.specs.Rules.{flagsAt, ownerOf, spared}
-use Rattle.moves.proofs.Sums.{bytes-moved}
-use Rattle.moves.proofs.Laws.{counts-kept, length-moveBytes, move-applied, moved-known}
-use Rattle.move_rules.proofs.Known.{known-movable}
+use Rattle.path_moves.specs.declared.Moved.{Moved}
+use Rattle.path_moves.specs.Moves.{CanMove, atPosition, applied, changeInside, codeOf, moveBytes, moveFrom, movedMeta, positionOf}
+use Rattle.path_moves.specs.Rules.{flagsAt, ownerOf, spared}
+use Rattle.path_moves.proofs.Sums.{bytes-moved}
+use Rattle.path_moves.proofs.Moves.{counts-kept, length-moveBytes, move-applied, moved-known}
+use Rattle.path_moves.proofs.Rules.{known-movable}
 use Rattle.round_trip.proofs.Mirror.{Path, info-below}
 
 -- an info field whose accumulator was changed

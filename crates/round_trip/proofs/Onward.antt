@@ -16,9 +16,9 @@ use Rattle.path_fields.specs.Fields.{infoFieldAt}
 use Rattle.path_meta_header.specs.declared.PathMetaHeader.{PathMetaHeader}
 use Rattle.path_fields.specs.declared.InfoField.{InfoField}
 use Rattle.path.proofs.Links.{segment-below}
-use Rattle.moves.specs.Moves.{atPosition, changeInside, codeOf, iterate, moveBytes, moveFrom, moved, movedMeta, positionOf}
-use Rattle.move_rules.specs.Rules.{flagsAt, ownerOf, spared}
-use Rattle.moves.proofs.Laws.{moved-is}
+use Rattle.path_moves.specs.Moves.{atPosition, changeInside, codeOf, iterate, moveBytes, moveFrom, moved, movedMeta, positionOf}
+use Rattle.path_moves.specs.Rules.{flagsAt, ownerOf, spared}
+use Rattle.path_moves.proofs.Moves.{moved-is}
 use Rattle.round_trip.specs.RoundTrip.{metaHeaderOf, hopCount, accumulatorAfter, accumulatorBy}
 use Rattle.round_trip.proofs.Fields.{by-lt}
 use Rattle.round_trip.proofs.Shape.{in-first, in-second, in-third}

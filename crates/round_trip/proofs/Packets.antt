@@ -10,8 +10,8 @@ use native.Mathlib.Omega.{arith}
 use lib.ListN.{length, replicate, length-replicate}
 use Rattle.path_meta_header.specs.MetaHeader.{infoFieldsCount, hopFieldsCount, pathLength, segmentOf}
 use Rattle.path_meta_header.specs.declared.PathMetaHeader.{PathMetaHeader}
-use Rattle.moves.specs.Moves.{atPosition, iterate, moveBytes, moveFrom, moved, movedMeta, positionOf, walked, walkMoves}
-use Rattle.moves.proofs.Laws.{moved-is}
+use Rattle.path_moves.specs.Moves.{atPosition, iterate, moveBytes, moveFrom, moved, movedMeta, positionOf, walked, walkMoves}
+use Rattle.path_moves.proofs.Moves.{moved-is}
 use Rattle.round_trip.specs.RoundTrip.{
   turned,
   End,

@@ -9,7 +9,7 @@ use lib.ListN.{length}
 use Rattle.wire_encoding.specs.BigEndian.{part}
 use Rattle.path_meta_header.specs.MetaHeader.{infoFieldsCount, hopFieldsCount, hopStart}
 use Rattle.path_meta_header.specs.declared.PathMetaHeader.{PathMetaHeader}
-use Rattle.moves.specs.Moves.{atPosition, iterate, moved, walked}
+use Rattle.path_moves.specs.Moves.{atPosition, iterate, moved, walked}
 use Rattle.round_trip.specs.RoundTrip.{
   turned,
   first,

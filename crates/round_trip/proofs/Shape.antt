@@ -10,8 +10,8 @@ use lib.Dec.{eqb}
 use lib.ListN.{getD}
 use borrow.Author.Tests.{lt-ltb, le-ltb, eq-eqb, ne-eqb}
 use Rattle.path_meta_header.specs.MetaHeader.{segmentLength, infoFieldsCount, hopFieldsCount, segmentOf, lengthsValid}
-use Rattle.meta_header_reversal.specs.Reversal.{reversedLengths}
-use Rattle.meta_header_reversal.proofs.ReversalLaws.{rowOf, row-is}
+use Rattle.path_meta_header.specs.Reversal.{reversedLengths}
+use Rattle.path_meta_header.proofs.Reversal.{rowOf, row-is}
 use Rattle.path_meta_header.specs.declared.PathMetaHeader.{PathMetaHeader}
 use Rattle.path.proofs.Links.{Segments, one, two, three, segments}
 use Rattle.round_trip.proofs.Fields.{by-lt}

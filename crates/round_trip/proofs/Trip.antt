@@ -11,7 +11,7 @@ use lib.ListN.{length}
 use borrow.Author.Tests.{eq-eqb}
 use Rattle.path_meta_header.specs.MetaHeader.{hopFieldsCount}
 use Rattle.path_meta_header.specs.declared.PathMetaHeader.{PathMetaHeader}
-use Rattle.moves.specs.Moves as moves
+use Rattle.path_moves.specs.Moves as moves
 use Rattle.round_trip.specs.RoundTrip.{
   turned,
   End,

@@ -10,20 +10,20 @@ use native.Mathlib.Omega.{arith}
 use lib.ListN.{length, take, drop, length-append, length-drop}
 use lib.Seq.{take-at, take-append-le, drop-append-le, drop-append-add, drop-drop, getD-drop}
 use borrow.Author.Tests.{eq-eqb}
-use Rattle.bits.specs.Bits.{bitOf, withBit}
+use Rattle.wire_encoding.specs.Bits.{bitOf, withBit}
 use Rattle.wire_encoding.specs.BigEndian.{bigEndian, bytesOf, part}
-use Rattle.bits.proofs.BitLaws.{bit-kept}
-use Rattle.wire_encoding.proofs.Parts.{Bytes, length-part}
-use Rattle.wire_encoding.proofs.Numbers.{length-bytesOf, read-bytesOf}
+use Rattle.wire_encoding.proofs.Bits.{bit-kept}
+use Rattle.wire_encoding.proofs.Lists.{Bytes, length-part}
+use Rattle.wire_encoding.proofs.BigEndian.{length-bytesOf, read-bytesOf}
 use Rattle.path_meta_header.specs.MetaHeader.{metaOf, infoFieldsCount, hopFieldsCount, pathLength, infoStart, hopStart}
-use Rattle.meta_header_encoding.specs.Encoding.{wordOf}
+use Rattle.path_meta_header.specs.Encoding.{wordOf}
 use Rattle.path_fields.specs.Fields.{infoFieldAt, newInfoField, constructedDir, withConstructedDir}
 use Rattle.path_meta_header.specs.declared.PathMetaHeader.{PathMetaHeader}
 use Rattle.path_fields.specs.declared.InfoField.{InfoField}
-use Rattle.path_fields.proofs.FieldLaws.{info-of-part}
-use Rattle.meta_header_encoding.proofs.EncodingLaws.{Fitting, word-below, meta-back}
-use Rattle.reverse.specs.Reverse.{records, reversedRecords, flipped, same}
-use Rattle.reverse.proofs.Laws.{Sized, sized-flipped, sized-same, last-first, length-reversedRecords}
+use Rattle.path_fields.proofs.Fields.{info-of-part}
+use Rattle.path_meta_header.proofs.Encoding.{Fitting, word-below, meta-back}
+use Rattle.path_reverse.specs.Reverse.{records, reversedRecords, flipped, same}
+use Rattle.path_reverse.proofs.Reverse.{Sized, sized-flipped, sized-same, last-first, length-reversedRecords}
 
 -- the path reversed, under this header
 unfoldable pub turnedAs : PathMetaHeader → PathMetaHeader → List ℕ → List ℕ

@@ -16,9 +16,9 @@ use Rattle.path_meta_header.specs.declared.PathMetaHeader.{PathMetaHeader}
 use Rattle.path_fields.specs.declared.InfoField.{InfoField}
 use Rattle.path_fields.specs.declared.Interface.{Interface}
 use Rattle.path.specs.Dataplane.{standard, contents}
-use Rattle.reverse.specs.Reverse as reverse
-use Rattle.moves.specs.Moves as moves
-use Rattle.move_rules.specs.Rules as rules
+use Rattle.path_reverse.specs.Reverse as reverse
+use Rattle.path_moves.specs.Moves as moves
+use Rattle.path_moves.specs.Rules as rules
 
 -- THE ENDS AND THE PACKETS
 

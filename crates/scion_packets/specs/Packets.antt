@@ -4,16 +4,16 @@ use lib.Dec.{eqb}
 use mathlib.Core.Bool.{cond}
 use Rattle.address.specs.declared.host.HostAddr.the-variants.{V4, V6, Svc}
 use Rattle.packet_address_header.specs.AddressHeader.{kindOf, hostOfKind}
-use Rattle.path_error.specs.Errors.{encodedNumber}
+use Rattle.errors.specs.Errors.{encodedNumber}
 use Rattle.packet_address_header.specs.declared.MaybeEncoded.{MaybeEncoded}
 use Rattle.packet_address_header.specs.declared.MaybeEncoded.the-variants as host
 use Rattle.packet_address_header.specs.declared.HostAddress.{HostAddress}
 use Rattle.packet_address_header.specs.declared.AddressHeader.{AddressHeader}
-use Rattle.path_error.specs.declared.Encoded.{Encoded}
+use Rattle.errors.specs.declared.packet_error.Encoded.{Encoded}
 use Rattle.packet.specs.declared.raw.ScionPacketRaw.{ScionPacketRaw}
-use Rattle.headers.specs.declared.ScionHeaders as library
-use Rattle.scion_answer.specs.Answer.{decodedOut, pathOut, partOut}
-use Rattle.scion_answer.specs.declared.ScionAnswer.{ScionAnswer}
+use Rattle.packet_headers.specs.declared.ScionHeaders as library
+use Rattle.scion_paths.specs.Answer.{decodedOut, pathOut, partOut}
+use Rattle.scion_paths.specs.declared.ScionAnswer.{ScionAnswer}
 use Rattle.scion_packets.specs.declared.ScionHost.{ScionHost}
 use Rattle.scion_packets.specs.declared.ScionPacket.{ScionPacket}
 use Rattle.scion_packets.specs.declared.ScionHeaders.{ScionHeaders}

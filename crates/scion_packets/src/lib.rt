@@ -2,18 +2,18 @@
 use address::host::HostAddr;
 use address::ia::IsdAsn;
 use address::service::ServiceAddr;
-use headers::ScionHeaders as Headers;
+use errors::packet_error::Encoded;
 use packet::raw::ScionPacketRaw;
 use packet_address_header::AddressHeader;
 use packet_address_header::HostAddress;
 use packet_address_header::MaybeEncoded;
-use path_error::Encoded;
-use scion_answer::ScionAnswer;
-use scion_answer::ScionPart;
-use scion_answer::ScionPath;
-use scion_answer::decoded_out;
-use scion_answer::part_out;
-use scion_answer::path_out;
+use packet_headers::ScionHeaders as Headers;
+use scion_paths::ScionAnswer;
+use scion_paths::ScionPart;
+use scion_paths::ScionPath;
+use scion_paths::decoded_out;
+use scion_paths::part_out;
+use scion_paths::path_out;
 ghost use mathlib.Core.Path.{_≡_};
 ghost use Rattle.scion_packets.specs.Packets as spec;
 

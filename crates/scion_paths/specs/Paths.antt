@@ -13,8 +13,8 @@ use Rattle.path_expiry.specs.declared.Expiry.{Expiry}
 use Rattle.path_expiry.specs.declared.TimeLeft.{TimeLeft}
 use Rattle.path_interfaces.specs.declared.InterfaceCount.{InterfaceCount}
 use Rattle.path_interfaces.specs.declared.InterfaceAt.{InterfaceAt}
-use Rattle.moves.specs.declared.WalkAnswer.{WalkAnswer}
-use Rattle.scion_answer.specs.Answer.{answerOut, decodedOut, pathOut, partOut}
+use Rattle.path_moves.specs.declared.WalkAnswer.{WalkAnswer}
+use Rattle.scion_paths.specs.Answer.{answerOut, decodedOut, pathOut, partOut}
 use Rattle.scion_paths.specs.declared.ScionPathAnswer.{ScionPathAnswer}
 use Rattle.scion_paths.specs.declared.ScionPathRead.{ScionPathRead}
 use Rattle.scion_paths.specs.declared.ScionInfoField.{ScionInfoField}

@@ -1,9 +1,12 @@
 // What calls on paths hand to C, in the layout of include/scion_proto.h, and how it is made.
-use moves::WalkAnswer;
+use errors::packet_error::Decoded;
+use errors::path_error::Answer;
+use errors::path_error::PathError;
 use path::dataplane::DataplaneRead;
 use path::dataplane::Located;
 use path::dataplane::PathAnswer;
 use path::standard::Part;
+use path::standard::StandardPath;
 use path::standard::segment::Segment;
 use path_expiry::Expiry;
 use path_expiry::TimeLeft;
@@ -12,16 +15,85 @@ use path_fields::InfoField;
 use path_fields::Interface;
 use path_interfaces::InterfaceAt;
 use path_interfaces::InterfaceCount;
-use scion_answer::ScionAnswer;
-use scion_answer::ScionPart;
-use scion_answer::ScionPath;
-use scion_answer::answer_out;
-use scion_answer::decoded_out;
-use scion_answer::part_out;
-use scion_answer::path_out;
+use path_moves::WalkAnswer;
 ghost use mathlib.Core.Path.{_≡_};
+ghost use Rattle.scion_paths.specs.Answer.{answerOut, decodedOut, pathOut, partOut};
 ghost use Rattle.path.specs.Dataplane.{partIn};
 ghost use Rattle.scion_paths.specs.Paths as spec;
+
+// 0 where the call was carried out, else the number of the refusal; the value is 0 unless the number is 2 or 3.
+#[repr(C)]
+pub struct ScionAnswer {
+    pub number: u8,
+    pub value: u8,
+}
+
+// The record of a standard path; all zero for other types.
+#[repr(C)]
+pub struct ScionPath {
+    pub current_info_field: u8,
+    pub current_hop_field: u8,
+    pub reserved: u8,
+    pub segment_lengths: [u8; 3],
+}
+
+// A part of the caller's bytes.
+#[repr(C)]
+pub struct ScionPart {
+    pub start: usize,
+    pub len: usize,
+}
+
+// The answer of a call.
+pub fn answer_out(answer: Answer) -> ScionAnswer
+    ensures { λ r. ⌜ r ≡ answerOut answer ⌝ }
+{
+    match answer {
+        Answer::Accepted => ScionAnswer {
+            number: 0,
+            value: 0,
+        },
+        Answer::Refused(error) => {
+            let number = error.number();
+            let value = error.value();
+            ScionAnswer { number, value }
+        }
+    }
+}
+
+// The answer of a reader.
+pub fn decoded_out(answer: Decoded) -> ScionAnswer
+    ensures { λ r. ⌜ r ≡ decodedOut answer ⌝ }
+{
+    match answer {
+        Decoded::Accepted => answer_out(Answer::Accepted),
+        Decoded::Refused(error) => answer_out(Answer::Refused(PathError::Decode(error))),
+    }
+}
+
+// The record of a path.
+pub fn path_out(path: StandardPath) -> ScionPath
+    ensures { λ r. ⌜ r ≡ pathOut path ⌝ }
+{
+    let meta_header = path.meta_header;
+    let segment_lengths = meta_header.segment_lengths;
+    ScionPath {
+        current_info_field: meta_header.current_info_field,
+        current_hop_field: meta_header.current_hop_field,
+        reserved: meta_header.reserved,
+        segment_lengths,
+    }
+}
+
+// A part of the caller's bytes.
+pub fn part_out(part: Part) -> ScionPart
+    ensures { λ r. ⌜ r ≡ partOut part ⌝ }
+{
+    ScionPart {
+        start: part.start,
+        len: part.len,
+    }
+}
 
 // Whether a call was carried out, and the record of the path as the call leaves it.
 #[repr(C)]

@@ -1,7 +1,6 @@
 // The calls on packets: reading one, and writing the headers of one.
-use headers::ScionHeaders as Headers;
 use packet::raw::ScionPacketRaw;
-use scion_answer::ScionAnswer;
+use packet_headers::ScionHeaders as Headers;
 use scion_packets::ScionHeaders;
 use scion_packets::ScionHost;
 use scion_packets::ScionPacket;
@@ -10,12 +9,13 @@ use scion_packets::encoded_out;
 use scion_packets::headers_in;
 use scion_packets::headers_out;
 use scion_packets::packet_out;
+use scion_paths::ScionAnswer;
 ghost use mathlib.Core.Path.{_≡_};
 ghost use lib.ListN.{length};
 ghost use Rattle.wire_encoding.specs.Result.{orElse};
-ghost use Rattle.path_error.specs.Errors.{encodedOf};
+ghost use Rattle.errors.specs.Errors.{encodedOf};
 ghost use Rattle.packet.specs.Raw.{readPacket, packetAnswer};
-ghost use Rattle.headers.specs.Headers as headers;
+ghost use Rattle.packet_headers.specs.Headers as headers;
 ghost use Rattle.scion_packets.specs.Packets as spec;
 
 // Splits the packet that begins `bytes`.

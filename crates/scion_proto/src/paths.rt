@@ -1,9 +1,9 @@
 // The calls on paths: each takes the path's type byte beside its bytes, and hands the library's answer over.
-use moves::single_move;
-use moves::walk;
 use path::dataplane::DataplanePath;
-use path_copy::copy_to_slice;
-use reverse::reverse_to_slice;
+use path_moves::single_move;
+use path_moves::walk;
+use path_reverse::copy_to_slice;
+use path_reverse::reverse_to_slice;
 use scion_paths::ScionExpiry;
 use scion_paths::ScionHopField;
 use scion_paths::ScionInfoField;
@@ -27,11 +27,11 @@ use scion_paths::walk_out;
 ghost use mathlib.Core.Path.{_≡_};
 ghost use Rattle.wire_encoding.specs.Result.{andThen};
 ghost use Rattle.path.specs.Dataplane as dataplane;
-ghost use Rattle.path_copy.specs.Copy as copy;
+ghost use Rattle.path_reverse.specs.Copy as copy;
 ghost use Rattle.path_expiry.specs.Expiry as expiry;
 ghost use Rattle.path_interfaces.specs.Interfaces as interfaces;
-ghost use Rattle.reverse.specs.Reverse as reversal;
-ghost use Rattle.moves.specs.Moves as moves;
+ghost use Rattle.path_reverse.specs.Reverse as reversal;
+ghost use Rattle.path_moves.specs.Moves as moves;
 ghost use Rattle.scion_paths.specs.Paths as spec;
 
 // Reads a path by its type: its record, and how many of the bytes are the path's.

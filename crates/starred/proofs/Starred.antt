@@ -8,8 +8,8 @@ use Rattle.path.specs.Standard as standard
 use Rattle.path.specs.Dataplane as dataplane
 use Rattle.path_expiry.specs.Expiry as expiry
 use Rattle.path_interfaces.specs.Interfaces as interfaces
-use Rattle.moves.specs.Moves as moves
-use Rattle.move_rules.specs.Rules as rules
+use Rattle.path_moves.specs.Moves as moves
+use Rattle.path_moves.specs.Rules as rules
 use Rattle.packet_common_header.specs.CommonHeader as common
 use Rattle.packet.specs.Raw as raw
 use Rattle.starred.specs.Table.{reading, splitting, expiring, interfaceOfTwoByTwo, moving, answers, wanted}

@@ -4,11 +4,11 @@ use mathlib.Core.List.{List, [], _∷_, _++_}
 use lib.ListN.{replicate}
 use Rattle.wire_encoding.specs.Result.{orElse, told}
 use Rattle.wire_encoding.specs.BigEndian.{bigEndian}
-use Rattle.path_error.specs.Errors.{decodedOf, decodedNumber, decodedValue, answerOf, answerNumber}
+use Rattle.errors.specs.Errors.{decodedOf, decodedNumber, decodedValue, answerOf, answerNumber}
 use Rattle.path.specs.Dataplane.{readDataplane}
 use Rattle.path_expiry.specs.Expiry.{expiryIn}
 use Rattle.path_interfaces.specs.Interfaces.{interfaceIn}
-use Rattle.moves.specs.Moves.{move, moved}
+use Rattle.path_moves.specs.Moves.{move, moved}
 use Rattle.packet.specs.Raw.{readPacket}
 
 -- reading a standard path of these meta bytes, enough following: the answer's number, and the path's length in bytes

@@ -1,4 +1,6 @@
-pub mod Results
-pub mod Parts
-pub mod Numbers
+pub mod Result
+pub mod Lists
+pub mod BigEndian
 pub mod Writes
+pub mod Bits
+pub mod Widths

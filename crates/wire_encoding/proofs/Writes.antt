@@ -12,8 +12,8 @@ use borrow.Author.Tests.{le-leb, lt-leb}
 use mathlib.Core.Bool.{Bool, true, false}
 use Rattle.wire_encoding.specs.Result.{ok, refused, require, orElse}
 use Rattle.wire_encoding.specs.BigEndian.{bytesOf, numberAt, part, room, written, placed}
-use Rattle.wire_encoding.proofs.Parts.{Bytes, length-part, sets-append, set-sets, sets-whole}
-use Rattle.wire_encoding.proofs.Numbers.{or-zero-is, length-bytesOf, bytes-read}
+use Rattle.wire_encoding.proofs.Lists.{Bytes, length-part, sets-append, set-sets, sets-whole}
+use Rattle.wire_encoding.proofs.BigEndian.{or-zero-is, length-bytesOf, bytes-read}
 
 -- what is left of a number, written to dst as it is now, gives what is wanted
 pub record NumberLeft (goal dst₀ dst : List ℕ) (at left rest : ℕ) : Type 0 where

@@ -1,3 +1,5 @@
 pub mod Result
 pub mod BigEndian
 pub mod Answers
+pub mod Bounded
+pub mod Bits

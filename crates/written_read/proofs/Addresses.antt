@@ -7,8 +7,8 @@ use native.Mathlib.Nat.{mod-eq-of-lt}
 use native.Mathlib.Omega.{arith}
 use lib.ListN.{length, take, length-append}
 use Rattle.wire_encoding.specs.BigEndian.{bigEndian, bytesOf}
-use Rattle.wire_encoding.proofs.Parts.{Bytes, part-join}
-use Rattle.wire_encoding.proofs.Numbers.{length-bytesOf, bytes-read, read-bytesOf}
+use Rattle.wire_encoding.proofs.Lists.{Bytes, part-join}
+use Rattle.wire_encoding.proofs.BigEndian.{length-bytesOf, bytes-read, read-bytesOf}
 use Rattle.wire_encoding.specs.Result.{ok}
 use Rattle.packet_common_header.specs.CommonHeader.{hostLength}
 use Rattle.packet_address_header.specs.AddressHeader.{

@@ -8,12 +8,12 @@ use native.Mathlib.Omega.{arith}
 use lib.ListN.{length, getD, take}
 use borrow.Author.Tests.{le-leb, eq-eqb, ne-eqb}
 use Rattle.wire_encoding.specs.BigEndian.{bigEndian, bytesOf}
-use Rattle.wire_encoding.proofs.Parts.{Bytes, bytesFrom, part-bytes}
-use Rattle.wire_encoding.proofs.Numbers.{below, bytes-read, read-bytesOf}
+use Rattle.wire_encoding.proofs.Lists.{Bytes, bytesFrom, part-bytes}
+use Rattle.wire_encoding.proofs.BigEndian.{below, bytes-read, read-bytesOf}
 use Rattle.wire_encoding.specs.Result.{ok}
 use Rattle.packet_common_header.specs.CommonHeader.{commonAt, readCommon, versionOf, factorOf, commonBytes}
 use Rattle.packet_common_header.specs.declared.CommonHeader.{CommonHeader}
-use Rattle.packet_common_header.proofs.CommonLaws.{Widths, first-fits}
+use Rattle.packet_common_header.proofs.CommonHeaderLaws.{Widths, first-fits}
 
 -- READ AS IT WAS WRITTEN
 

@@ -11,7 +11,7 @@ use borrow.Author.Tests.{ltb-true}
 use Rattle.wire_encoding.specs.Result.{ok, orElse}
 use Rattle.wire_encoding.specs.BigEndian.{bigEndian, bytesOf, numberAt, room, part}
 use Rattle.address.specs.declared.host.HostAddr.the-variants.{V4, Svc}
-use Rattle.path_error.specs.Errors.{decodedNumber}
+use Rattle.errors.specs.Errors.{decodedNumber}
 use Rattle.path_meta_header.specs.MetaHeader as meta
 use Rattle.path.specs.Standard as standard
 use Rattle.path.specs.Dataplane as dataplane
@@ -21,8 +21,8 @@ use Rattle.packet_address_header.specs.declared.MaybeEncoded.the-variants.{Deco
 use Rattle.packet.specs.Raw as raw
 use Rattle.packet.specs.Raw.{Packet, readPacket, payloadPart, packetAnswer}
 use Rattle.path_meta_header.specs.declared.PathMetaHeader.{PathMetaHeader}
-use Rattle.headers.specs.Headers as headers
-use Rattle.headers.specs.declared.ScionHeaders.{ScionHeaders}
+use Rattle.packet_headers.specs.Headers as headers
+use Rattle.packet_headers.specs.declared.ScionHeaders.{ScionHeaders}
 use Rattle.written_read.specs.WrittenRead as round
 use Rattle.written_read.specs.WrittenRead.{Typed, Fills, Unpadded, headersOf}
 use Rattle.written_read.proofs.ReadsBack.{reads-back}

@@ -11,14 +11,14 @@ use lib.Seq.{sets, sets-eq, take-at, take-all, take-take, drop-append-seam, getD
 use lib.Dec.{eqb}
 use borrow.Author.Tests.{eqb-true}
 use Rattle.wire_encoding.specs.BigEndian.{bigEndian, bytesOf, part}
-use Rattle.wire_encoding.proofs.Parts.{Bytes, length-part, part-join}
-use Rattle.wire_encoding.proofs.Numbers.{below, bytes-read, read-bytesOf}
+use Rattle.wire_encoding.proofs.Lists.{Bytes, length-part, part-join}
+use Rattle.wire_encoding.proofs.BigEndian.{below, bytes-read, read-bytesOf}
 use Rattle.address.specs.declared.host.HostAddr.the-variants.{V4, V6, Svc}
 use Rattle.packet_common_header.specs.CommonHeader.{hostLength}
 use Rattle.packet_address_header.specs.AddressHeader.{kindOf, hostOfKind, padded, hostAt, serviceBytes, rawOf, hostOnWire, wireHostBytes, hostBytes}
 use Rattle.packet_address_header.specs.declared.MaybeEncoded.the-variants.{Decoded, Encoded}
 use Rattle.packet_address_header.specs.declared.HostAddress.{HostAddress}
-use Rattle.packet_common_header.proofs.CommonLaws.{host-few}
+use Rattle.packet_common_header.proofs.CommonHeaderLaws.{host-few}
 use Rattle.packet_address_header.proofs.ReadingLaws.{kind-of-kind}
 use Rattle.written_read.specs.WrittenRead.{hostRead, HostsReadBack, PaddingZero}
 

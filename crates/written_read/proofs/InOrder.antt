@@ -6,10 +6,10 @@ use Prim.Native.Nat.{ℕ, _+_}
 use native.Mathlib.Omega.{arith}
 use lib.ListN.{length, take}
 use Rattle.wire_encoding.specs.BigEndian.{part}
-use Rattle.wire_encoding.proofs.Parts.{part-join}
+use Rattle.wire_encoding.proofs.Lists.{part-join}
 use Rattle.packet_address_header.specs.AddressHeader.{addressLength}
 use Rattle.packet.specs.Raw.{pathPart, payloadPart}
-use Rattle.packet.proofs.PacketLaws.{split, path-lies, payload-lies}
+use Rattle.packet.proofs.RawLaws.{split, path-lies, payload-lies}
 use Rattle.written_read.specs.WrittenRead.{InOrder}
 
 pub in-order : InOrder

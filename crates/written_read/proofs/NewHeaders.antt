@@ -7,11 +7,11 @@ use native.Mathlib.Omega.{arith}
 use lib.ListN.{length, drop, replicate}
 use Rattle.wire_encoding.specs.Result.{ok}
 use Rattle.wire_encoding.specs.BigEndian.{bigEndian, bytesOf}
-use Rattle.wire_encoding.proofs.Results.{same-value, stepped}
+use Rattle.wire_encoding.proofs.Result.{same-value, stepped}
 use Rattle.address.specs.declared.host.HostAddr.the-variants.{V4}
 use Rattle.path_meta_header.specs.MetaHeader.{pathLength}
 use Rattle.path_meta_header.specs.declared.PathMetaHeader.{PathMetaHeader}
-use Rattle.path_error.specs.Errors.{decodedNumber}
+use Rattle.errors.specs.Errors.{decodedNumber}
 use Rattle.path.specs.Standard.{readPath}
 use Rattle.path.specs.Dataplane as dataplane
 use Rattle.path.specs.Dataplane.{Extent, readDataplane}
@@ -24,7 +24,7 @@ use Rattle.packet_address_header.specs.declared.AddressHeader.{AddressHeader}
 use Rattle.packet.specs.Raw as raw
 use Rattle.packet.specs.Raw.{readPacket, packetAnswer}
 use Rattle.packet.specs.declared.raw.ScionPacketRaw.{ScionPacketRaw}
-use Rattle.headers.specs.Headers.{
+use Rattle.packet_headers.specs.Headers.{
   addedLength,
   addedBytes,
   headersLength,
@@ -33,7 +33,7 @@ use Rattle.headers.specs.Headers.{
   headerBytes,
   writeHeaders,
 }
-use Rattle.headers.specs.declared.ScionHeaders.{ScionHeaders}
+use Rattle.packet_headers.specs.declared.ScionHeaders.{ScionHeaders}
 use Rattle.written_read.specs.WrittenRead.{Fills}
 
 -- WHERE THEY FILL IT

@@ -8,19 +8,19 @@ use lib.ListN.{length, take, drop, length-append}
 use lib.Seq.{take-at, drop-at}
 use borrow.Author.Tests.{le-leb, eq-eqb}
 use Rattle.wire_encoding.specs.Result.{ok}
-use Rattle.wire_encoding.proofs.Results.{same-value}
+use Rattle.wire_encoding.proofs.Result.{same-value}
 use Rattle.path_meta_header.specs.declared.PathMetaHeader.{PathMetaHeader}
 use Rattle.path.specs.Dataplane.{readDataplane}
 use Rattle.packet_common_header.specs.CommonHeader.{readCommon, headerLength, hostLength, commonBytes}
 use Rattle.packet_address_header.specs.AddressHeader.{addressLength, lengthOfKinds, readAddress, addressBytes}
 use Rattle.packet_common_header.specs.declared.CommonHeader.{CommonHeader}
 use Rattle.packet_address_header.specs.declared.AddressHeader.{AddressHeader}
-use Rattle.packet_common_header.proofs.CommonLaws.{common-widths, length-commonBytes}
+use Rattle.packet_common_header.proofs.CommonHeaderLaws.{common-widths, length-commonBytes}
 use Rattle.packet_address_header.proofs.WritingLaws.{Sixteen, length-addressBytes}
 use Rattle.packet.specs.Raw.{readPacket}
-use Rattle.headers.specs.Headers.{addedBytes, headersLength, commonOf, headerBytes}
-use Rattle.headers.specs.declared.ScionHeaders.{ScionHeaders}
-use Rattle.headers.proofs.WritingLaws.{Known, known, length-headerBytes}
+use Rattle.packet_headers.specs.Headers.{addedBytes, headersLength, commonOf, headerBytes}
+use Rattle.packet_headers.specs.declared.ScionHeaders.{ScionHeaders}
+use Rattle.packet_headers.proofs.Headers.{Known, known, length-headerBytes}
 use Rattle.written_read.specs.WrittenRead.{Typed, Fills, addressRead, packetOf, ReadsBack}
 use Rattle.written_read.proofs.Commons.{Fields, common-read}
 use Rattle.written_read.proofs.Addresses.{address-read-long, address-back}

@@ -11,22 +11,22 @@ use lib.Dec.{eqb}
 use borrow.Author.Tests.{lt-ltb, le-leb, eq-eqb, ne-eqb}
 use Rattle.wire_encoding.specs.Result.{Result, ok}
 use Rattle.wire_encoding.specs.BigEndian.{part}
-use Rattle.wire_encoding.proofs.Results.{same-value}
-use Rattle.wire_encoding.proofs.Parts.{Bytes, part-part, part-join, bytes-part}
-use Rattle.path_error.specs.declared.DecodeError.{DecodeError}
+use Rattle.wire_encoding.proofs.Result.{same-value}
+use Rattle.wire_encoding.proofs.Lists.{Bytes, part-part, part-join, bytes-part}
+use Rattle.errors.specs.declared.packet_error.DecodeError.{DecodeError}
 use Rattle.path.specs.Dataplane.{Extent, headless, readDataplane}
 use Rattle.packet_common_header.specs.CommonHeader.{commonAt, headerLength, hostLength, commonBytes, fieldsFit, commonFits}
 use Rattle.packet_common_header.specs.declared.CommonHeader.{CommonHeader}
-use Rattle.packet_common_header.proofs.CommonLaws.{common-known, Widths}
+use Rattle.packet_common_header.proofs.CommonHeaderLaws.{common-known, Widths}
 use Rattle.packet_address_header.specs.AddressHeader.{kindOf, addressAt, lengthOfKinds, addressLength, addressBytes}
 use Rattle.packet_address_header.specs.declared.AddressHeader.{AddressHeader}
 use Rattle.packet_address_header.proofs.ReadingLaws.{kind-read, address-length, AddressKnown, address-known}
 use Rattle.packet.specs.Raw.{Packet, pathPart, payloadPart}
-use Rattle.packet.proofs.PacketLaws.{Split, split, where-found, end-inside, sees, start-inside, path-lies}
-use Rattle.headers.specs.Headers as headers
-use Rattle.headers.specs.Headers.{addedBytes, addedLength, headersLength, headerBytes, writeHeaders}
-use Rattle.headers.specs.declared.ScionHeaders.{ScionHeaders}
-use Rattle.headers.proofs.WritingLaws.{length-addedBytes}
+use Rattle.packet.proofs.RawLaws.{Split, split, where-found, end-inside, sees, start-inside, path-lies}
+use Rattle.packet_headers.specs.Headers as headers
+use Rattle.packet_headers.specs.Headers.{addedBytes, addedLength, headersLength, headerBytes, writeHeaders}
+use Rattle.packet_headers.specs.declared.ScionHeaders.{ScionHeaders}
+use Rattle.packet_headers.proofs.Headers.{length-addedBytes}
 use Rattle.written_read.specs.WrittenRead.{headersOf, PaddingZero, WritesAgain}
 use Rattle.written_read.proofs.Commons.{common-fields, common-written}
 use Rattle.written_read.proofs.Addresses.{address-written}

@@ -13,8 +13,8 @@ use Rattle.packet_address_header.specs.AddressHeader.{kindOf, hostAt, addressLe
 use Rattle.packet_address_header.specs.declared.HostAddress.{HostAddress}
 use Rattle.packet_address_header.specs.declared.AddressHeader.{AddressHeader}
 use Rattle.packet.specs.Raw.{Packet, readPacket, payloadPart}
-use Rattle.headers.specs.Headers.{addedBytes, headersLength, commonOf, writeHeaders}
-use Rattle.headers.specs.declared.ScionHeaders.{ScionHeaders}
+use Rattle.packet_headers.specs.Headers.{addedBytes, headersLength, commonOf, writeHeaders}
+use Rattle.packet_headers.specs.declared.ScionHeaders.{ScionHeaders}
 
 -- A PACKET IN ORDER
 

@@ -3,7 +3,7 @@ use mathlib.Core.Path.{_∙_}
 use native.Mathlib.Omega.{arith}
 use lib.ListN.{replicate}
 use Rattle.wire_encoding.specs.BigEndian.{bytesOf}
-use Rattle.wire_encoding.proofs.Numbers.{length-bytesOf}
+use Rattle.wire_encoding.proofs.BigEndian.{length-bytesOf}
 use Rattle.wire_encoding.proofs.Writes.{placed-is}
 use Rattle.packet_address_header.specs.AddressHeader.{serviceBytes}
 use borrow.Author.Needs.{needs}

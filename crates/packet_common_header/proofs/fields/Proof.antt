@@ -2,7 +2,7 @@
 use native.Mathlib.Omega.{arith}
 -- `fields` meets its contract: the bytes are there, so each number is the one that they spell.
 use native.Mathlib.Omega.{arith}
-use Rattle.wire_encoding.proofs.Numbers.{or-zero-is}
+use Rattle.wire_encoding.proofs.BigEndian.{or-zero-is}
 use Rattle.packet_common_header.specs.CommonHeader.{commonAt}
 use borrow.Author.Needs.{needs}
 use Rattle.packet_common_header.proofs.fields.Statement.{statement}

@@ -1,8 +1,8 @@
 // Segments: an info field and its run of hop fields.
 use crate::standard::Part;
 use crate::standard::StandardPath;
-use path_error::Answer;
-use path_error::PathError;
+use errors::path_error::Answer;
+use errors::path_error::PathError;
 use path_fields::HopField;
 use path_fields::InfoField;
 use path_meta_header::PathMetaHeader;

@@ -3,7 +3,7 @@ use borrow.Author.Needs.{needs}
 use native.Mathlib.Nat.{add-sub-cancel-left}
 use native.Mathlib.Omega.{arith}
 use lib.ListN.{length-take, length-drop}
-use Rattle.path.proofs.SegmentLaws.{Inside, inside}
+use Rattle.path.proofs.Segment.{Inside, inside}
 use Rattle.path_expiry.proofs.ExpiryLaws.{expiry-by-run}
 use Rattle.path_expiry.proofs.segment_expiry.Statement.{statement}
 use Rattle.path_expiry.proofs.segment_expiry.Tie as tie

@@ -4,7 +4,7 @@ use borrow.Author.Tests.{le-leb, lt-leb}
 use lib.IntN.{ℤ}
 use mir.Syntax.{w64}
 use mir.Facts.{toZ-ofZ}
-use Rattle.path_error.specs.declared.Answer.the-variants.{Accepted}
+use Rattle.errors.specs.declared.path_error.Answer.the-variants.{Accepted}
 use Rattle.path_expiry.specs.declared.TimeLeft.{TimeLeft}
 use Rattle.path_expiry.specs.Expiry as spec
 use Rattle.path_expiry.proofs.ExpiryLaws.{expiry-ok, recorded, expiry-refused}

@@ -2,7 +2,7 @@
 use mathlib.Core.Path.{_∙_}
 use Prim.Native.Nat.{_+_}
 use native.Mathlib.Omega.{arith}
-use Rattle.wire_encoding.proofs.Numbers.{or-zero-is}
+use Rattle.wire_encoding.proofs.BigEndian.{or-zero-is}
 use borrow.Author.Needs.{needs}
 use Rattle.path_expiry.proofs.timestamp_at.Statement.{statement}
 use Rattle.path_expiry.proofs.timestamp_at.Tie as tie

@@ -1,7 +1,7 @@
 -- `hop_fields` meets its contract: the part lies among the bytes.
 use native.Mathlib.Omega.{arith}
 use native.Mathlib.Nat.{add-sub-cancel-left}
-use Rattle.path_hop_fields.proofs.Inside.{located-inside}
+use Rattle.path_hop_fields.proofs.Located.{located-inside}
 use borrow.Author.Needs.{needs}
 use Rattle.path_hop_fields.proofs.hop_fields.Statement.{statement}
 use Rattle.path_hop_fields.proofs.hop_fields.Tie as tie

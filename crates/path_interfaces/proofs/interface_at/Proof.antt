@@ -5,7 +5,7 @@ use native.Mathlib.Omega.{arith}
 use borrow.Author.Tests.{eq-eqb, ne-eqb}
 use Rattle.path_meta_header.specs.MetaHeader.{segmentOf, infoStart, hopStart}
 use Rattle.path_fields.specs.Fields.{infoFieldAt, hopFieldAt}
-use Rattle.path_fields.proofs.FieldLaws.{info-of-part, hop-of-part}
+use Rattle.path_fields.proofs.Fields.{info-of-part, hop-of-part}
 use Rattle.path_interfaces.specs.Interfaces as spec
 use borrow.Author.Needs.{needs}
 use Rattle.path_interfaces.proofs.interface_at.Statement.{statement}

@@ -5,7 +5,7 @@ use Rattle.path_meta_header.specs.MetaHeader.{pathLength, hopFieldOf, hopFieldF
 use Rattle.wire_encoding.specs.Result.{ok}
 use Rattle.path_interfaces.specs.Interfaces.{interfaceOf, interfaceFound}
 use Rattle.path.proofs.Links.{segment-below}
-use Rattle.path_interfaces.proofs.InterfaceLaws.{link-below}
+use Rattle.path_interfaces.proofs.Interfaces.{link-below}
 use borrow.Author.Needs.{needs}
 use Rattle.path_interfaces.proofs.interface_of.Statement.{statement}
 use Rattle.path_interfaces.proofs.interface_of.Tie as tie

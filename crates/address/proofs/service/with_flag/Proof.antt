@@ -1,5 +1,5 @@
 -- `with_flag` meets its contract: the law of the mask, at bit 15.
-use Rattle.bits.proofs.BitLaws.{set-bit}
+use Rattle.wire_encoding.proofs.Bits.{set-bit}
 use Rattle.address.proofs.service.with_flag.Statement.{statement}
 use Rattle.address.proofs.service.with_flag.Tie as tie
 

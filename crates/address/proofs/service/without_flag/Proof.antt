@@ -1,6 +1,6 @@
 -- `without_flag` meets its contract: the law of the mask, at bit 15.
 use native.Mathlib.Omega.{arith}
-use Rattle.bits.proofs.BitLaws.{clear-bit}
+use Rattle.wire_encoding.proofs.Bits.{clear-bit}
 use Rattle.address.proofs.service.without_flag.Statement.{statement}
 use Rattle.address.proofs.service.without_flag.Tie as tie
 

@@ -1,6 +1,6 @@
 -- `AddressHeader::decode_with_context` meets its contract: one test for the three, and each part lies inside.
 use native.Mathlib.Omega.{arith}
-use Rattle.wire_encoding.proofs.Numbers.{or-zero-is}
+use Rattle.wire_encoding.proofs.BigEndian.{or-zero-is}
 use Rattle.packet_address_header.specs.AddressHeader.{addressAt, addressAnswer, lengthOfKinds}
 use Rattle.packet_address_header.proofs.ReadingLaws.{address-length, truncated, address-read}
 use borrow.Author.Needs.{needs}

@@ -1,7 +1,7 @@
 -- `encode_to` meets its contract: a header that the tests let through fills the destination.
 use mathlib.Core.Path.{sym, _∙_}
 use Rattle.wire_encoding.proofs.Writes.{placed-whole}
-use Rattle.path_error.proofs.Told.{written, kept}
+use Rattle.errors.proofs.Errors.{written, kept}
 use Rattle.packet_address_header.specs.AddressHeader.{onWire, addressBytes, writeAddress}
 use Rattle.packet_address_header.proofs.WritingLaws.{Sixteen, wire-length, wire-written, length-addressBytes}
 use borrow.Author.Needs.{needs}

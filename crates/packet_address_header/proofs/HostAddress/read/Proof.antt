@@ -1,7 +1,7 @@
 -- `HostAddress::read` meets its contract: kind 4 is a service, any other keeps its bytes.
 use borrow.Author.Tests.{eq-eqb, ne-eqb}
 use native.Mathlib.Omega.{arith}
-use Rattle.wire_encoding.proofs.Numbers.{or-zero-is}
+use Rattle.wire_encoding.proofs.BigEndian.{or-zero-is}
 use Rattle.packet_common_header.specs.CommonHeader.{hostLength}
 use Rattle.packet_address_header.specs.AddressHeader.{hostAt}
 use borrow.Author.Needs.{needs}

@@ -1,6 +1,6 @@
 -- `WireAddress::check` meets its contract: the same tests in the same order.
 use borrow.Author.Tests.{lt-ltb, le-ltb, eq-eqb, ne-eqb}
-use Rattle.path_error.specs.Errors.{encodedOf}
+use Rattle.errors.specs.Errors.{encodedOf}
 use Rattle.packet_address_header.specs.AddressHeader.{writeWire}
 use borrow.Author.Needs.{needs}
 use Rattle.packet_address_header.proofs.WireAddress.check.Statement.{statement}

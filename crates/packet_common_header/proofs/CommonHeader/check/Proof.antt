@@ -1,6 +1,6 @@
 -- `check` meets its contract: the same tests in the same order.
 use borrow.Author.Tests.{eq-eqb, ne-eqb, not-true, not-false}
-use Rattle.path_error.specs.Errors.{encodedOf}
+use Rattle.errors.specs.Errors.{encodedOf}
 use Rattle.packet_common_header.specs.CommonHeader.{writeCommon, commonFits}
 use borrow.Author.Needs.{needs}
 use Rattle.packet_common_header.proofs.CommonHeader.check.Statement.{statement}

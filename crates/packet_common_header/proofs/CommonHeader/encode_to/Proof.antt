@@ -1,8 +1,8 @@
 -- `CommonHeader::encode_to` meets its contract: a header that the tests let through is written whole.
 use mathlib.Core.Path.{sym, _∙_}
 use Rattle.packet_common_header.specs.CommonHeader.{commonBytes}
-use Rattle.path_error.proofs.Told.{written, kept}
-use Rattle.packet_common_header.proofs.CommonLaws.{common-written, length-commonBytes}
+use Rattle.errors.proofs.Errors.{written, kept}
+use Rattle.packet_common_header.proofs.CommonHeaderLaws.{common-written, length-commonBytes}
 use Rattle.wire_encoding.proofs.Writes.{placed-whole}
 use borrow.Author.Needs.{needs}
 use Rattle.packet_common_header.proofs.CommonHeader.encode_to.Statement.{statement}

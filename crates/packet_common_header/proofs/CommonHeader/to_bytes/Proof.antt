@@ -2,7 +2,7 @@
 use Prim.Native.Nat.{_+_, _*_}
 use native.Mathlib.Omega.{arith}
 use Rattle.packet_common_header.specs.CommonHeader.{commonBytes}
-use Rattle.packet_common_header.proofs.CommonLaws.{common-widths, first-fits, four-digits, two-digits}
+use Rattle.packet_common_header.proofs.CommonHeaderLaws.{common-widths, first-fits, four-digits, two-digits}
 use borrow.Author.Needs.{needs}
 use Rattle.packet_common_header.proofs.CommonHeader.to_bytes.Statement.{statement}
 use Rattle.packet_common_header.proofs.CommonHeader.to_bytes.Tie as tie

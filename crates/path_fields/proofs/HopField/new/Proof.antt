@@ -2,8 +2,8 @@
 use native.Mathlib.Omega.{arith}
 use borrow.Author.Needs.{needs}
 use borrow.Author.Tests.{eq-eqb, ne-eqb}
-use Rattle.wire_encoding.proofs.Parts.{part-bytes}
-use Rattle.wire_encoding.proofs.Numbers.{or-zero-is}
+use Rattle.wire_encoding.proofs.Lists.{part-bytes}
+use Rattle.wire_encoding.proofs.BigEndian.{or-zero-is}
 use Rattle.path_fields.specs.Fields.{newHopField, hopFieldAt, zeroHopField}
 use Rattle.path_fields.proofs.HopField.new.Statement.{statement}
 use Rattle.path_fields.proofs.HopField.new.Tie as tie

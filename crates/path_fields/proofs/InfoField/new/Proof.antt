@@ -2,7 +2,7 @@
 use native.Mathlib.Omega.{arith}
 use borrow.Author.Needs.{needs}
 use borrow.Author.Tests.{eq-eqb, ne-eqb}
-use Rattle.wire_encoding.proofs.Numbers.{or-zero-is}
+use Rattle.wire_encoding.proofs.BigEndian.{or-zero-is}
 use Rattle.path_fields.specs.Fields.{newInfoField, infoFieldAt, zeroInfoField}
 use Rattle.path_fields.proofs.InfoField.new.Statement.{statement}
 use Rattle.path_fields.proofs.InfoField.new.Tie as tie

@@ -1,5 +1,5 @@
 -- `decode` meets its contract: the word that is read, and then its rules.
-use Rattle.wire_encoding.proofs.Numbers.{was-read, was-truncated}
+use Rattle.wire_encoding.proofs.BigEndian.{was-read, was-truncated}
 use Rattle.path_meta_header.specs.MetaHeader.{readMeta}
 use borrow.Author.Needs.{needs}
 use Rattle.path_meta_header.proofs.PathMetaHeader.decode.Statement.{statement}

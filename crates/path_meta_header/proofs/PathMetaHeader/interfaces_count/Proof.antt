@@ -1,7 +1,7 @@
 -- `interfaces_count` meets its contract; there are never more info fields than hop fields.
 use native.Mathlib.Omega.{arith}
 use Rattle.path_meta_header.specs.MetaHeader as spec
-use Rattle.path_meta_header.proofs.MetaLaws.{info-le-hop}
+use Rattle.path_meta_header.proofs.MetaHeader.{info-le-hop}
 use borrow.Author.Needs.{needs}
 use Rattle.path_meta_header.proofs.PathMetaHeader.interfaces_count.Statement.{
   statement,

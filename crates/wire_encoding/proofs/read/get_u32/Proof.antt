@@ -5,7 +5,7 @@ use Prim.Native.Nat.{_+_, _≤_}
 use lib.ListN.{length}
 use borrow.Author.Needs.{needs}
 use borrow.Author.Tests.{leb-true, leb-false}
-use Rattle.wire_encoding.proofs.Numbers.{below, found, truncated}
+use Rattle.wire_encoding.proofs.BigEndian.{below, found, truncated}
 use Rattle.wire_encoding.proofs.read.get_u32.Statement.{statement}
 use Rattle.wire_encoding.proofs.read.get_u32.Tie as tie
 

@@ -3,7 +3,7 @@ use native.Mathlib.Omega.{arith}
 use mathlib.Core.Path.{sym}
 use Prim.Native.Nat.{_+_}
 use borrow.Author.Tests.{lt-leb}
-use Rattle.wire_encoding.proofs.Numbers.{room-left}
+use Rattle.wire_encoding.proofs.BigEndian.{room-left}
 use Rattle.wire_encoding.proofs.read.has_room.Statement.{statement}
 use Rattle.wire_encoding.proofs.read.has_room.Tie as tie
 

@@ -4,7 +4,7 @@ use Prim.Native.Nat.{_≤_, _+_, _-_}
 use mathlib.Core.Path.{_≡_}
 use native.Mathlib.Omega.{arith}
 use Rattle.wire_encoding.specs.BigEndian.{bigEndian}
-use Rattle.wire_encoding.proofs.Numbers.{next-fits, more}
+use Rattle.wire_encoding.proofs.BigEndian.{next-fits, more}
 use Rattle.wire_encoding.proofs.read.read_big_endian.Statement.{statement}
 use Rattle.wire_encoding.proofs.read.read_big_endian.Tie as tie
 

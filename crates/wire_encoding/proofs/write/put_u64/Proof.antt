@@ -4,7 +4,7 @@ use Prim.Native.Nat.{_+_, _≤_}
 use lib.ListN.{length}
 use borrow.Author.Needs.{needs}
 use borrow.Author.Tests.{leb-true, leb-false}
-use Rattle.wire_encoding.proofs.Numbers.{length-bytesOf}
+use Rattle.wire_encoding.proofs.BigEndian.{length-bytesOf}
 use Rattle.wire_encoding.proofs.Writes.{done, no-room}
 use Rattle.wire_encoding.proofs.write.put_u64.Statement.{statement}
 use Rattle.wire_encoding.proofs.write.put_u64.Tie as tie

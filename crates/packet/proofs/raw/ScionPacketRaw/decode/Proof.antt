@@ -4,7 +4,7 @@ use Prim.Native.Nat.{_+_}
 use native.Mathlib.Omega.{arith}
 use Rattle.path.proofs.Reading.{read-ok, read-refused}
 use Rattle.packet.specs.Raw.{readPacket}
-use Rattle.packet.proofs.PacketLaws.{
+use Rattle.packet.proofs.RawLaws.{
   common-ok,
   common-refused,
   address-ok,

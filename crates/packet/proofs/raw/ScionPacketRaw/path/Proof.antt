@@ -1,7 +1,7 @@
 -- `ScionPacketRaw::path` meets its contract: the part lies inside the packet, and holds the path's bytes.
 use native.Mathlib.Nat.{add-sub-cancel-left}
 use native.Mathlib.Omega.{arith}
-use Rattle.packet.proofs.PacketLaws.{path-handed}
+use Rattle.packet.proofs.RawLaws.{path-handed}
 use borrow.Author.Needs.{needs}
 use Rattle.packet.proofs.raw.ScionPacketRaw.path.Statement.{statement}
 use Rattle.packet.proofs.raw.ScionPacketRaw.path.Tie as tie

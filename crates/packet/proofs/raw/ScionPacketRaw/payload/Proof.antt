@@ -1,7 +1,7 @@
 -- `ScionPacketRaw::payload` meets its contract: the part lies inside the packet, and holds the payload's bytes.
 use native.Mathlib.Nat.{add-sub-cancel-left}
 use native.Mathlib.Omega.{arith}
-use Rattle.packet.proofs.PacketLaws.{payload-handed}
+use Rattle.packet.proofs.RawLaws.{payload-handed}
 use borrow.Author.Needs.{needs}
 use Rattle.packet.proofs.raw.ScionPacketRaw.payload.Statement.{statement}
 use Rattle.packet.proofs.raw.ScionPacketRaw.payload.Tie as tie

@@ -4,7 +4,7 @@ use native.Mathlib.Omega.{arith}
 use borrow.Author.Tests.{le-leb, lt-leb}
 use lib.ListN.{length}
 use Rattle.path_meta_header.specs.MetaHeader.{pathLength}
-use Rattle.path_meta_header.proofs.MetaLaws.{meta-ok, meta-refused}
+use Rattle.path_meta_header.proofs.MetaHeader.{meta-ok, meta-refused}
 use Rattle.path.specs.Standard as spec
 use borrow.Author.Needs.{needs}
 use Rattle.path.proofs.standard.StandardPath.decode.Statement.{statement}

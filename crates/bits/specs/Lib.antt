@@ -1,2 +1,0 @@
-pub mod Bounded
-pub mod Bits

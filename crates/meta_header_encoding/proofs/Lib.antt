@@ -1,2 +1,0 @@
-pub mod EncodingLaws
-pub mod WrittenRead

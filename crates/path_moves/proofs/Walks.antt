@@ -1,0 +1,78 @@
+-- A walk, move by move: what is known after each move, and what is reported at the end.
+-- Assumes nothing.
+use Prim.Native.Nat.{ℕ, _+_, _<_}
+use mathlib.Core.Path.{_≡_, refl, sym}
+use mathlib.Core.Bool.{Bool, true, false, _&&_}
+use mathlib.Core.List.{List}
+use native.Mathlib.Numerals.{add-one}
+use native.Mathlib.Omega.{arith}
+use lib.Dec.{ltb, eqb}
+use lib.ListN.{length}
+use borrow.Author.Tests.{ltb-true}
+use Rattle.wire_encoding.specs.Result.{ok}
+use Rattle.wire_encoding.proofs.Lists.{Bytes}
+use Rattle.path_meta_header.specs.MetaHeader.{hopFieldsCount, hopValid}
+use Rattle.path_meta_header.specs.declared.PathMetaHeader.{PathMetaHeader}
+use Rattle.path.specs.Dataplane.{standard}
+use Rattle.path.proofs.Reading.{standard-read}
+use Rattle.path_moves.specs.Moves as spec
+use Rattle.path_moves.specs.Moves.{CanMove, iterate}
+use Rattle.path_moves.specs.Rules.{movable}
+use Rattle.path_moves.proofs.Moves.{length-moveBytes, counts-kept, moved-known, moved-is}
+use Rattle.path_moves.proofs.Rules.{known, known-movable}
+
+both : (a b : Bool) → a && b ≡ true → a ≡ true
+both true b h = refl
+both false b h = h
+
+-- a sound header's hop pointer is one of the path's
+hop-below : (m : PathMetaHeader) → hopValid m ≡ true → m .«current_hop_field» < hopFieldsCount m
+unfolding hopValid
+hop-below m h = ltb-true _ _ (both (ltb (m .«current_hop_field») (hopFieldsCount m)) _ h)
+
+-- a walk that began at bytes₀, under m₀, stands at `bytes`, under m and at this hop field, after so many moves
+pub record Walking (bytes₀ : List ℕ) (m₀ : PathMetaHeader) (bytes : List ℕ) (m : PathMetaHeader) (hop moves : ℕ) : Type 0 where
+  pub able : movable 1 bytes ≡ ok m
+  pub made : bytes ≡ iterate moves (spec.moved 1) bytes₀
+  pub here : hop ≡ m .«current_hop_field»
+  pub gone : hop ≡ m₀ .«current_hop_field» + moves
+  pub count : hopFieldsCount m ≡ hopFieldsCount m₀
+  pub inside : hop < hopFieldsCount m₀
+  pub len : length bytes ≡ length bytes₀
+
+pub begin : (bytes : List ℕ) (m : PathMetaHeader) {hop : ℕ} → movable 1 bytes ≡ ok m → hop ≡ m .«current_hop_field» → Walking bytes m bytes m hop 0
+begin bytes m able e =
+    let below = hop-below m (known 1 bytes able .path .sound-meta .hop) in
+    record { able = able; made = refl; here = e; gone = omega arith; count = refl; inside = omega arith; len = refl }
+
+module _ (bytes₀ : List ℕ) (m₀ : PathMetaHeader) (bytes : List ℕ) (m : PathMetaHeader) {hop moves : ℕ} (w : Walking bytes₀ m₀ bytes m hop moves) where
+  pub can : hop + 1 < hopFieldsCount m₀ → CanMove bytes m
+  can h = record { able = w .able; before-last = omega arith }
+
+  pub next : Bytes bytes → hop + 1 < hopFieldsCount m₀ → {bytes′ : List ℕ} {m′ : PathMetaHeader}
+      → m′ ≡ spec.movedMeta bytes m → bytes′ ≡ spec.moveBytes bytes m → Walking bytes₀ m₀ bytes′ m′ (hop + 1) (moves + 1)
+  unfolding spec.movedMeta spec.atPosition spec.moveFrom spec.positionOf
+  next b h em eb =
+      let c = can h in
+      let counts = counts-kept bytes m c in
+      let long = length-moveBytes bytes m in
+      rw (em, eb) (record {
+        able = known-movable (spec.moveBytes bytes m) (spec.movedMeta bytes m) (moved-known bytes m c b);
+        made = rw (add-one moves, ← w .made) (sym (moved-is bytes m c));
+        here = omega arith;
+        gone = omega arith;
+        count = omega arith;
+        inside = h;
+        len = omega arith;
+      })
+
+  -- what `steps` hands back
+  pub stands : (standard 1 (iterate moves (spec.moved 1) bytes₀) ≡ ok m) × (bytes ≡ iterate moves (spec.moved 1) bytes₀)
+  stands = (rw (← w .made) (standard-read bytes m (known 1 bytes (w .able) .path)), w .made)
+
+-- a walk of n moves
+pub way : (bytes : List ℕ) (m : PathMetaHeader) (limit : ℕ) → movable 1 bytes ≡ ok m → {n : ℕ} → n ≡ spec.walkMoves m limit
+    → spec.walk 1 bytes limit
+    ≡ ok (record { bytes = iterate n (spec.moved 1) bytes; moves = n; arrived = eqb (m .«current_hop_field» + n + 1) (hopFieldsCount m) })
+unfolding spec.walk
+way bytes m limit able en = rw (able, ← en)

@@ -1,0 +1,55 @@
+-- `step` meets its contract: it applies the move from the header's own position, whose pointers fit their bits.
+use borrow.Author.Needs.{needs}
+use mathlib.Core.Path.{sym, _∙_}
+use native.Mathlib.Omega.{arith}
+use Rattle.path_moves.specs.Moves.{movedMeta}
+use Rattle.path_moves.proofs.Moves.{standing, fits, move-applied}
+use Rattle.path_moves.proofs.step.Statement.{statement}
+use Rattle.path_moves.proofs.step.Tie as tie
+
+of-requires : tie.Need-of-requires
+of-requires c κs = search needs
+
+moved-requires : tie.Need-moved-requires
+moved-requires c κs = search needs
+
+wide-requires : tie.Need-wide-requires
+wide-requires c κs = search needs
+
+apply-requires : tie.Need-apply-requires
+apply-requires c κs =
+    let start = c .before .before .before .before .before .before in
+    let s = standing _ _ (start .pre) in
+    let of-own = c .before .before .before .before .of .ensures in
+    (omega arith, fits _ _ (start .pre) (rw of-own at (c .before .before .moved .ensures)))
+
+at-position-requires : tie.Need-at-position-requires
+at-position-requires c κs = search needs
+
+same-length : tie.Need-same-length
+same-length c = search needs
+
+returns : tie.Need-returns
+unfolding movedMeta
+returns c =
+    let made = c .before .before .before .before .before .before .before .moved .ensures in
+    let of-own = c .before .before .before .before .before .before .before .before .before .of .ensures in
+    let bytes = c .before .before .before .before .before .before .before .before .before .before .slice-known .given in
+    let start = c .before .before .before .before .before .before .before .before .before .before .before in
+    let s = standing _ _ (start .pre) in (
+      c .at-position .ensures ∙ rw (made, of-own),
+      c .before .before .before .before .apply .ensures ∙ rw (c .before .before .before .before .before .wide .ensures .0, made, of-own)
+          (sym (move-applied (start .args .bytes .now) (start .args .meta-header) bytes (omega arith))),
+    )
+
+pub step-spec : {M : Type 1} → statement M
+step-spec =
+    tie.close
+    (tie.spec
+    of-requires
+    moved-requires
+    wide-requires
+    apply-requires
+    at-position-requires
+    same-length
+    returns)

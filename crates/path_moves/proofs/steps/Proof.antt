@@ -1,0 +1,85 @@
+-- `steps` meets its contract: the bytes are those of so many single moves, each of which leaves a path that can be moved; each turn uses up one of the limit.
+use Prim.Native.Nat.{_≤_, _-_}
+use borrow.Author.Needs.{needs}
+use native.Mathlib.Omega.{arith}
+use Rattle.wire_encoding.proofs.Lists.{Bytes}
+use Rattle.path_moves.specs.Moves.{walkMoves}
+use Rattle.path_moves.proofs.Walks.{Walking, begin, can, next, stands}
+use Rattle.path_moves.proofs.steps.Statement.{statement}
+use Rattle.path_moves.proofs.steps.Tie as tie
+
+abbrev Inv-loop : tie.InvT-loop
+Inv-loop bytes₀ limit count meta-header₀ hop₀ moves₀ bytes meta-header hop moves =
+    Walking bytes₀ meta-header₀ bytes meta-header hop moves × Bytes bytes × (moves ≤ limit)
+
+abbrev μ-loop : tie.MeasureT-loop
+μ-loop bytes₀ limit count meta-header₀ hop₀ moves₀ bytes meta-header hop moves = limit - moves
+
+hop-fields-count-requires : tie.Need-hop-fields-count-requires Inv-loop μ-loop
+hop-fields-count-requires c κs = search needs
+
+wide-requires : tie.Need-wide-requires Inv-loop μ-loop
+wide-requires c κs = search needs
+
+loop-holds : tie.Need-loop-holds Inv-loop μ-loop
+loop-holds c =
+    (begin _ _ (c .before .before .before .pre) (c .wide .ensures .0), c .before .before .slice-known .given, omega arith)
+
+add-if1 : tie.Need-add-if1 Inv-loop μ-loop
+add-if1 c = search needs
+
+step-requires : tie.Need-step-requires Inv-loop μ-loop
+step-requires c κs = can _ _ _ _ (c .before .before .before .loop .inv .0) (omega arith)
+
+add-hop : tie.Need-add-hop Inv-loop μ-loop
+add-hop c = search needs
+
+add-moves : tie.Need-add-moves Inv-loop μ-loop
+add-moves c = search needs
+
+loop-less : tie.Need-loop-less Inv-loop μ-loop
+loop-less c = search needs
+
+loop-again : tie.Need-loop-again Inv-loop μ-loop
+loop-again c =
+    let inv = c .before .before .before .before .before .before .loop .inv in
+    let made = c .before .before .step .ensures in
+    (next _ _ _ _ (inv .0) (inv .1) (omega arith) (made .0) (made .1), c .slice-known2 .given, omega arith)
+
+same-length : tie.Need-same-length Inv-loop μ-loop
+same-length c = c .before .loop .inv .0 .len
+
+returns : tie.Need-returns Inv-loop μ-loop
+unfolding walkMoves
+returns c =
+    let walk = c .before .loop .inv .0 in
+    (omega arith, stands _ _ _ _ walk)
+
+same-length-2 : tie.Need-same-length-2 Inv-loop μ-loop
+same-length-2 c = c .before .before .loop .inv .0 .len
+
+returns-2 : tie.Need-returns-2 Inv-loop μ-loop
+unfolding walkMoves
+returns-2 c =
+    let walk = c .before .before .loop .inv .0 in
+    (omega arith, stands _ _ _ _ walk)
+
+pub steps-spec : {M : Type 1} → statement M
+steps-spec =
+    tie.close
+    (tie.spec
+    Inv-loop
+    μ-loop
+    hop-fields-count-requires
+    wide-requires
+    loop-holds
+    add-if1
+    step-requires
+    add-hop
+    add-moves
+    loop-less
+    loop-again
+    same-length
+    returns
+    same-length-2
+    returns-2)

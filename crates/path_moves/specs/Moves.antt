@@ -1,0 +1,136 @@
+-- Moves (the draft's processing at routers, seen from hop field to hop field). Move, walk, owner and spared are document 01's words.
+use Prim.Native.Nat.{ℕ, zero, suc, _+_, _-_, _*_, _<_, min}
+use mathlib.Core.Path.{_≡_}
+use mathlib.Core.Bool.{Bool, false, not, _&&_, cond}
+use mathlib.Core.List.{List, []}
+use lib.ListN.{set}
+use lib.Seq.{sets}
+use lib.Dec.{ltb, eqb}
+use lib.Bits.{bitXor}
+use Rattle.wire_encoding.specs.Result.{Result, ok, require, _>>_, _>>=_, orElse, told}
+use Rattle.wire_encoding.specs.BigEndian.{bigEndian, bytesOf}
+use Rattle.path_meta_header.specs.MetaHeader.{segmentLength, hopFieldsCount, segmentOf, infoStart, hopStart}
+use Rattle.path_meta_header.specs.declared.PathMetaHeader.{PathMetaHeader}
+use Rattle.errors.specs.Errors.{answerOf}
+use Rattle.errors.specs.declared.path_error.PathError.{PathError}
+use Rattle.errors.specs.declared.path_error.PathError.the-variants.{AtLastHopField}
+use Rattle.path.specs.Dataplane.{standard, beside}
+use Rattle.path_moves.specs.Rules.{ownerOf, spared, flagsAt, movable}
+use Rattle.path_moves.specs.declared.Position.{Position}
+use Rattle.path_moves.specs.declared.Moved.{Moved}
+use Rattle.path_moves.specs.declared.WalkAnswer.{WalkAnswer}
+
+-- ONE MOVE
+
+-- the first two bytes of hop field j's code
+abbrev pub codeOf : List ℕ → PathMetaHeader → ℕ → ℕ
+codeOf bytes m j = bigEndian 2 bytes (hopStart m j + 6)
+
+-- whether a move from hop field h takes its owner's code in: inside segment k, unless the owner is spared
+unfoldable pub takesIn : List ℕ → PathMetaHeader → ℕ → ℕ → Bool
+takesIn bytes m k h = eqb (segmentOf m (h + 1)) k && not (spared (flagsAt bytes k) (ownerOf (flagsAt bytes k) h) (segmentLength m 0))
+
+-- the bytes after one move of a path that was read under m: the hop pointer gains 1, and the info pointer names its segment; where a code is
+-- taken in, accumulator k is XORed with it; all else stays
+unfoldable pub moveBytes : List ℕ → PathMetaHeader → List ℕ
+moveBytes bytes m =
+    let k = m .«current_info_field» in
+    let h = m .«current_hop_field» in
+    let accumulator = infoStart k + 2 in
+    let code = codeOf bytes m (ownerOf (flagsAt bytes k) h) in
+    let pointed = set bytes 0 (segmentOf m (h + 1) * 64 + (h + 1)) in
+    cond (takesIn bytes m k h) (sets pointed accumulator (bytesOf 2 (bitXor (bigEndian 2 bytes accumulator) code))) pointed
+
+-- THE CALLS
+
+-- the hop pointer is before the last hop field
+unfoldable pub notLast : PathMetaHeader → Bool
+notLast m = ltb (m .«current_hop_field» + 1) (hopFieldsCount m)
+
+-- a single move: the bytes that it leaves; 15 at the last hop field
+unfoldable pub move : ℕ → List ℕ → Result PathError (List ℕ)
+move type bytes = do
+  m ← movable type bytes
+  require (notLast m) AtLastHopField
+  ok (moveBytes bytes m)
+
+-- a refusal changes nothing
+unfoldable pub moved : ℕ → List ℕ → List ℕ
+moved type bytes = orElse (move type bytes) bytes
+
+-- f applied n times
+abbrev pub iterate : {A : Type 0} → ℕ → (A → A) → A → A
+iterate zero f x = x
+iterate (suc n) f x = f (iterate n f x)
+
+-- a walk with a limit: moves until the last hop field or the limit
+unfoldable pub walkMoves : PathMetaHeader → ℕ → ℕ
+walkMoves m limit = min limit (hopFieldsCount m - 1 - m .«current_hop_field»)
+
+-- the bytes of that many single moves, their number, and whether the path then stands at N − 1
+pub record Way : Type 0 where
+  pub bytes : List ℕ
+  pub moves : ℕ
+  pub arrived : Bool
+
+unfoldable pub walk : ℕ → List ℕ → ℕ → Result PathError Way
+walk type bytes limit = do
+  m ← movable type bytes
+  let n = walkMoves m limit
+  ok (record { bytes = iterate n (moved type) bytes; moves = n; arrived = eqb (m .«current_hop_field» + n + 1) (hopFieldsCount m) })
+
+unfoldable pub walked : ℕ → List ℕ → ℕ → List ℕ
+walked type bytes limit = told (walk type bytes limit) (λ way. way .bytes) (λ error. bytes)
+
+-- what is handed back of it, beside the record of the path that it leaves: all zero where it is refused
+unfoldable pub walkAnswer : ℕ → Result PathError Way → WalkAnswer
+walkAnswer type r =
+    let way = orElse r (record { bytes = []; moves = 0; arrived = false }) in
+    record { answer = answerOf r; path = beside (standard type (way .bytes)) r; moves = way .moves; arrived = way .arrived }
+
+-- WHAT THE STEPS INSIDE A CALL HAND ON: a change for every move, 0 where no code is taken in
+
+-- what the accumulator of segment k changes by in a move inside it from hop field h: the owner's code, unless the owner is spared
+unfoldable pub changeInside : List ℕ → PathMetaHeader → ℕ → ℕ → ℕ
+changeInside bytes m k h =
+    cond (spared (flagsAt bytes k) (ownerOf (flagsAt bytes k) h) (segmentLength m 0)) 0 (codeOf bytes m (ownerOf (flagsAt bytes k) h))
+
+-- the pointers
+unfoldable pub positionOf : PathMetaHeader → Position
+positionOf m = record { «current_info_field» = m .«current_info_field»; «current_hop_field» = m .«current_hop_field» }
+
+-- the move from a position: the hop pointer gains 1, the info pointer names the new segment; into another segment no accumulator changes
+unfoldable pub moveFrom : List ℕ → PathMetaHeader → Position → Moved
+moveFrom bytes m p =
+    let k = p .«current_info_field» in
+    let h = p .«current_hop_field» in
+    record {
+      position = record { «current_info_field» = segmentOf m (h + 1); «current_hop_field» = h + 1 };
+      change = cond (eqb (segmentOf m (h + 1)) k) (changeInside bytes m k h) 0;
+    }
+
+unfoldable pub atPosition : PathMetaHeader → Position → PathMetaHeader
+atPosition m p =
+    record {
+      «current_info_field» = p .«current_info_field»;
+      «current_hop_field» = p .«current_hop_field»;
+      reserved = m .reserved;
+      «segment_lengths» = m .«segment_lengths»;
+    }
+
+-- the bytes after a move out of segment k: the pointers, and accumulator k, XOR the change; all else stays
+unfoldable pub applied : List ℕ → ℕ → Moved → List ℕ
+applied bytes k move =
+    sets (set bytes 0 (move .position .«current_info_field» * 64 + move .position .«current_hop_field»)) (infoStart k + 2)
+    (bytesOf 2 (bitXor (bigEndian 2 bytes (infoStart k + 2)) (move .change)))
+
+-- the header after one move of a path that was read under m
+unfoldable pub movedMeta : List ℕ → PathMetaHeader → PathMetaHeader
+movedMeta bytes m = atPosition m (moveFrom bytes m (positionOf m) .position)
+
+-- WHAT THE STEPS INSIDE A CALL ASK
+
+-- a path that can be moved stands in the bytes under this header, and is not at its last hop field
+pub record CanMove (bytes : List ℕ) (m : PathMetaHeader) : Type 0 where
+  pub able : movable 1 bytes ≡ ok m
+  pub before-last : m .«current_hop_field» + 1 < hopFieldsCount m

@@ -1,0 +1,183 @@
+// Path reversal, which document 01 calls a turn, and copying: a path written into lent bytes.
+use errors::packet_error::Decoded;
+use errors::path_error::PathError;
+use path::dataplane::DataplanePath;
+use path::dataplane::PathAnswer;
+use path::standard::StandardPath;
+use path_fields::HopField;
+use path_fields::InfoField;
+use path_meta_header::PathMetaHeader;
+use path_meta_header::Word;
+use wire_encoding::read::u32_or_zero;
+use wire_encoding::read::u64_or_zero;
+use wire_encoding::write::put_slice;
+use wire_encoding::write::put_u32;
+use wire_encoding::write::put_u64;
+ghost use mathlib.Core.Path.{_≡_};
+ghost use Rattle.path.specs.Dataplane.{writtenAnswer, contents};
+ghost use Rattle.path_reverse.specs.Copy as copying;
+ghost use mathlib.Core.Bool.{true};
+ghost use Prim.Native.Nat.{_+_, _*_, _≤_};
+ghost use lib.ListN.{length, drop};
+ghost use lib.Seq.{sets};
+ghost use Rattle.path_meta_header.specs.Encoding.{metaFits, wordOf};
+ghost use Rattle.wire_encoding.specs.Result.{ok};
+ghost use Rattle.path_meta_header.specs.Reversal.{reversedMeta};
+ghost use Rattle.path.specs.Standard.{readPath};
+ghost use Rattle.path_reverse.specs.Reverse as spec;
+
+// Copies the bytes of a path to a destination of exactly their length.
+fn copy_whole(path: StandardPath, run: &[u8], dst: &mut [u8]) -> PathAnswer
+    ensures { λ r. ⌜ r ≡ writtenAnswer (copying.filled (path .«meta_header») (now (run .entry)) (now (dst .entry))) ⌝ }
+    ensures { λ _. ⌜ now (dst .exit) ≡ contents (copying.filled (path .«meta_header») (now (run .entry)) (now (dst .entry))) (now (dst .entry)) ⌝ }
+{
+    if dst.len() == run.len() {
+        put_slice(dst, 0, run);
+        return PathAnswer::accepted(path);
+    }
+    PathAnswer::refused(PathError::InadequateBufferSize)
+}
+
+// Copies the path to a destination of exactly its length. An empty path disregards its destination.
+pub fn copy_to_slice(path: DataplanePath, bytes: &[u8], dst: &mut [u8]) -> PathAnswer
+    ensures { λ r. ⌜ r ≡ writtenAnswer (copying.copy (path .«path_type») (now (bytes .entry)) (now (dst .entry))) ⌝ }
+    ensures { λ _. ⌜ now (dst .exit) ≡ contents (copying.copy (path .«path_type») (now (bytes .entry)) (now (dst .entry))) (now (dst .entry)) ⌝ }
+{
+    let read = path.decode(bytes);
+    let answer = read.answer;
+    match answer {
+        Decoded::Accepted => {
+            if path.path_type == DataplanePath::EMPTY {
+                return PathAnswer::accepted(read.path);
+            }
+            copy_whole(read.path, &bytes[..read.length], dst)
+        }
+        Decoded::Refused(error) => PathAnswer::not_read(error),
+    }
+}
+
+// Writes an info field to `dst`, its direction bit flipped.
+fn reverse_info_field(src: &[u8], dst: &mut [u8])
+    requires { ⌜ (length (now src) ≡ 8) × (length (now dst) ≡ 8) ⌝ }
+    ensures { λ _. ⌜ now (dst .exit) ≡ spec.flipped (now (src .entry)) ⌝ }
+{
+    put_u64(dst, 0, u64_or_zero(src, 0));
+    dst[0] = src[0] ^ InfoField::CONSTRUCTION_DIRECTION_FLAG;
+}
+
+// Writes a hop field to `dst`.
+fn copy_hop_field(src: &[u8], dst: &mut [u8])
+    requires { ⌜ (length (now src) ≡ 12) × (length (now dst) ≡ 12) ⌝ }
+    ensures { λ _. ⌜ now (dst .exit) ≡ now (src .entry) ⌝ }
+{
+    put_u64(dst, 0, u64_or_zero(src, 0));
+    put_u32(dst, 8, u32_or_zero(src, 8));
+}
+
+// Writes `count` info fields of `src` from `from` on to `dst`, the last one first, each with its direction bit flipped.
+fn reverse_info_fields(src: &[u8], from: usize, dst: &mut [u8], to: usize, count: usize)
+    requires { ⌜ (from + count * 8 ≤ length (now src)) × (to + count * 8 ≤ length (now dst)) ⌝ }
+    ensures { λ _. ⌜ now (dst .exit) ≡ sets (now (dst .entry)) to (spec.reversedRecords spec.flipped 8 count (drop from (now (src .entry)))) ⌝ }
+{
+    let mut next = to;
+    let mut left = count;
+    while 0 < left {
+        left -= 1;
+        let at = from + left * InfoField::LENGTH;
+        reverse_info_field(
+            &src[at..at + InfoField::LENGTH],
+            &mut dst[next..next + InfoField::LENGTH],
+        );
+        next += InfoField::LENGTH;
+    }
+}
+
+// Writes `count` hop fields of `src` from `from` on to `dst`, the last one first.
+fn reverse_hop_fields(src: &[u8], from: usize, dst: &mut [u8], to: usize, count: usize)
+    requires { ⌜ (from + count * 12 ≤ length (now src)) × (to + count * 12 ≤ length (now dst)) ⌝ }
+    ensures { λ _. ⌜ now (dst .exit) ≡ sets (now (dst .entry)) to (spec.reversedRecords spec.same 12 count (drop from (now (src .entry)))) ⌝ }
+{
+    let mut next = to;
+    let mut left = count;
+    while 0 < left {
+        left -= 1;
+        let at = from + left * HopField::LENGTH;
+        copy_hop_field(
+            &src[at..at + HopField::LENGTH],
+            &mut dst[next..next + HopField::LENGTH],
+        );
+        next += HopField::LENGTH;
+    }
+}
+
+// The word of a header whose numbers fit their fields.
+fn word_of(meta_header: PathMetaHeader) -> u32
+    requires { ⌜ metaFits «meta_header» ≡ true ⌝ }
+    ensures { λ r. ⌜ r ≡ wordOf «meta_header» ⌝ }
+{
+    match meta_header.as_u32() {
+        Word::Value(word) => word,
+        Word::TooWide => 0,
+    }
+}
+
+// Writes a whole path reversed to a destination of its length.
+fn reverse_fields(meta_header: PathMetaHeader, bytes: &[u8], dst: &mut [u8])
+    requires { ⌜ spec.Reversible «meta_header» (length (now bytes)) (length (now dst)) ⌝ }
+    ensures { λ _. ⌜ now (dst .exit) ≡ spec.reversedPath «meta_header» (now (bytes .entry)) ⌝ }
+{
+    let infos = meta_header.info_fields_count();
+    let hops = meta_header.hop_fields_count();
+    let reversed = meta_header.to_reversed();
+    put_u32(dst, 0, word_of(reversed));
+    reverse_info_fields(
+        bytes,
+        PathMetaHeader::LENGTH,
+        dst,
+        PathMetaHeader::LENGTH,
+        infos,
+    );
+    let first_hop = PathMetaHeader::LENGTH + infos * InfoField::LENGTH;
+    reverse_hop_fields(bytes, first_hop, dst, first_hop, hops);
+}
+
+// Writes a path that was read, reversed, to a destination of exactly its length.
+fn reverse_path(meta_header: PathMetaHeader, bytes: &[u8], dst: &mut [u8]) -> PathAnswer
+    requires { ⌜ readPath (now bytes) ≡ ok «meta_header» ⌝ }
+    ensures { λ r. ⌜ r ≡ writtenAnswer (copying.filled (reversedMeta «meta_header») (spec.reversedPath «meta_header» (now (bytes .entry))) (now (dst .entry))) ⌝ }
+    ensures { λ _. ⌜ now (dst .exit) ≡ contents (copying.filled (reversedMeta «meta_header») (spec.reversedPath «meta_header» (now (bytes .entry))) (now (dst .entry))) (now (dst .entry)) ⌝ }
+{
+    if dst.len() == meta_header.encoded_path_length() {
+        reverse_fields(meta_header, bytes, dst);
+        let reversed = meta_header.to_reversed();
+        return PathAnswer::accepted(StandardPath {
+            meta_header: reversed,
+        });
+    }
+    PathAnswer::refused(PathError::InadequateBufferSize)
+}
+
+// Reads a standard path and writes it reversed.
+fn reverse_standard(bytes: &[u8], dst: &mut [u8]) -> PathAnswer
+    ensures { λ r. ⌜ r ≡ writtenAnswer (spec.reverse 1 (now (bytes .entry)) (now (dst .entry))) ⌝ }
+    ensures { λ _. ⌜ now (dst .exit) ≡ contents (spec.reverse 1 (now (bytes .entry)) (now (dst .entry))) (now (dst .entry)) ⌝ }
+{
+    let read = StandardPath::decode(bytes);
+    let answer = read.answer;
+    match answer {
+        Decoded::Accepted => reverse_path(read.path.meta_header, bytes, dst),
+        Decoded::Refused(error) => PathAnswer::not_read(error),
+    }
+}
+
+// Writes the reversed path to a destination of exactly the path's length: a standard path by the draft's Path Reversal,
+// an opaque one as it is. An empty path writes nothing and disregards its destination.
+pub fn reverse_to_slice(path_type: u8, bytes: &[u8], dst: &mut [u8]) -> PathAnswer
+    ensures { λ r. ⌜ r ≡ writtenAnswer (spec.reverse «path_type» (now (bytes .entry)) (now (dst .entry))) ⌝ }
+    ensures { λ _. ⌜ now (dst .exit) ≡ contents (spec.reverse «path_type» (now (bytes .entry)) (now (dst .entry))) (now (dst .entry)) ⌝ }
+{
+    if path_type == DataplanePath::SCION {
+        return reverse_standard(bytes, dst);
+    }
+    copy_to_slice(DataplanePath::new(path_type), bytes, dst)
+}

@@ -1,0 +1,68 @@
+-- What a call on a path hands to C where it is refused: the library's zeros in every field but the answer.
+-- Assumes nothing.
+use Prim.Native.Nat.{ℕ}
+use mathlib.Core.Path.{_≡_, refl}
+use mathlib.Core.Bool.{false}
+use mathlib.Core.List.{List}
+use lib.IntN.{pos}
+use lib.ListN.{replicate}
+use Rattle.path_meta_header.specs.MetaHeader.{metaOf, nthField}
+use Rattle.path_fields.specs.Fields.{newInfoField, newHopField, zeroInfoField, zeroHopField}
+use Rattle.path_meta_header.specs.declared.PathMetaHeader.{PathMetaHeader}
+use Rattle.errors.specs.declared.path_error.Answer.the-variants.{Refused}
+use Rattle.errors.specs.declared.path_error.PathError.{PathError}
+use Rattle.wire_encoding.specs.Result.{Result, refused}
+use Rattle.path.specs.Dataplane.{pathAnswer, located, segment}
+use Rattle.path_expiry.specs.Expiry.{expiryFound, timeLeftFound}
+use Rattle.path_interfaces.specs.Interfaces.{interfaceCount, interfaceFound}
+use Rattle.path_moves.specs.Moves.{walkAnswer}
+use Rattle.scion_paths.specs.Answer.{answerOut, pathOut, partOut}
+use Rattle.scion_paths.proofs.Answer.{zeros}
+use Rattle.scion_paths.specs.Paths.{
+  pathAnswerOut,
+  infoFieldOut,
+  hopFieldOut,
+  segmentOut,
+  expiryOut,
+  timeLeftOut,
+  interfaceCountOut,
+  interfaceOut,
+  walkOut,
+}
+
+module _ (path : Result PathError PathMetaHeader) (error : PathError) where
+  pub path-answer-refused : pathAnswerOut (pathAnswer (refused error)) ≡ record { answer = answerOut (Refused error); path = zeros }
+  unfolding pathAnswerOut pathOut pathAnswer metaOf nthField
+  path-answer-refused = refl
+
+  pub info-field-refused : (bytes : List ℕ) → infoFieldOut bytes (located path (refused error)) ≡ record { answer = answerOut (Refused error); path = zeros; start = 0; flags = 0; reserved = 0; accumulator = 0; timestamp = 0 }
+  unfolding infoFieldOut pathOut located metaOf nthField newInfoField zeroInfoField
+  info-field-refused bytes = refl
+
+  pub hop-field-refused : (bytes : List ℕ) → hopFieldOut bytes (located path (refused error)) ≡ record { answer = answerOut (Refused error); path = zeros; start = 0; flags = 0; «exp_time» = 0; «cons_ingress» = 0; «cons_egress» = 0; mac = replicate 6 0 }
+  unfolding hopFieldOut pathOut located metaOf nthField newHopField zeroHopField
+  hop-field-refused bytes = refl
+
+  pub segment-refused : segmentOut (segment path (refused error)) ≡ record { answer = answerOut (Refused error); path = zeros; «info_field» = record { start = 0; len = 0 }; «hop_fields» = record { start = 0; len = 0 } }
+  unfolding segmentOut partOut pathOut segment metaOf nthField
+  segment-refused = refl
+
+  pub expiry-refused : expiryOut (expiryFound path (refused error)) ≡ record { answer = answerOut (Refused error); path = zeros; ms = 0 }
+  unfolding expiryOut pathOut expiryFound metaOf nthField
+  expiry-refused = refl
+
+  pub time-left-refused : timeLeftOut (timeLeftFound path (refused error)) ≡ record { answer = answerOut (Refused error); path = zeros; ms = pos 0 }
+  unfolding timeLeftOut pathOut timeLeftFound metaOf nthField
+  time-left-refused = refl
+
+  pub interface-count-refused : interfaceCountOut (interfaceCount path (refused error)) ≡ record { answer = answerOut (Refused error); path = zeros; count = 0 }
+  unfolding interfaceCountOut pathOut interfaceCount metaOf nthField
+  interface-count-refused = refl
+
+  pub interface-refused : interfaceOut (interfaceFound path (refused error)) ≡ record { answer = answerOut (Refused error); path = zeros; «hop_field» = 0; interface = 0 }
+  unfolding interfaceOut pathOut interfaceFound metaOf nthField
+  interface-refused = refl
+
+  pub walk-refused : walkOut (walkAnswer 1 (refused error)) ≡ record { answer = answerOut (Refused error); path = zeros; moves = 0; arrived = false }
+  unfolding walkOut pathOut walkAnswer metaOf nthField
+  walk-refused = refl
