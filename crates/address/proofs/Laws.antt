@@ -2,43 +2,42 @@
 -- Assumes nothing.
 use mathlib.Core.Path.{_≡_, refl}
 use mathlib.Core.Bool.{true, false}
-use Prim.Native.Nat.{ℕ, _+_, _*_, _^_, _<_}
+use Prim.Native.Nat.{_+_, _*_, _^_, _<_}
 use native.Mathlib.Omega.{arith}
+use lib.Dec.{ltb}
+use borrow.Author.Tests.{ltb-true, lt-ltb}
 use Rattle.wire_encoding.proofs.Bits.{bit-kept}
 use Rattle.wire_encoding.specs.Bits.{withBit}
 use Rattle.wire_encoding.specs.Result.{ok, refused}
-use Rattle.address.specs.Ia.{isdOf, asnOf, isWildcard, joined}
-use Rattle.address.specs.Service.{isMulticast, multicastOf, anycastOf}
-use Rattle.address.specs.Host.{hostTypeNumber, hostTypeOf}
-use Rattle.address.specs.declared.host.HostType.{HostType}
+use Rattle.wire_encoding.proofs.Result.{held, same-value}
+use Rattle.address.specs.Ia.{isdOf, asnOf, isWildcard, joined, JoinedApart, ApartJoined}
+use Rattle.address.specs.Service.{multicastOf, anycastOf, MulticastOrNot}
+use Rattle.address.specs.Host.{hostTypeOf, TypesReadBack}
 use Rattle.address.specs.declared.host.HostType.the-variants as type
-use Rattle.address.specs.declared.host.HostTypeRead.the-variants as read
 
--- the ISD and the AS of a number made of both
-pub isd-back : (isd asn : ℕ) → asn < 2 ^ 48 → isdOf (isd * 2 ^ 48 + asn) ≡ isd
-isd-back isd asn h = omega arith
+pub joined-apart : JoinedApart
+unfolding joined
+joined-apart isd asn number h =
+    let narrow = held (ltb asn (2 ^ 48)) _ _ h in
+    let is : isd * 2 ^ 48 + asn ≡ number = same-value (narrow .1) in
+    let small : asn < 2 ^ 48 = ltb-true asn (2 ^ 48) (narrow .0) in
+    rw (← is) (omega arith, omega arith)
 
-pub asn-back : (isd asn : ℕ) → asn < 2 ^ 48 → asnOf (isd * 2 ^ 48 + asn) ≡ asn
-asn-back isd asn h = omega arith
+pub apart-joined : ApartJoined
+unfolding joined
+apart-joined number =
+    let whole : isdOf number * 2 ^ 48 + asnOf number ≡ number = omega arith in
+    rw (lt-ltb (asnOf number) (2 ^ 48) (omega arith), whole)
 
--- and a number made of its own ISD and AS
-pub number-back : (number : ℕ) → isdOf number * 2 ^ 48 + asnOf number ≡ number
-number-back number = omega arith
+pub multicast-or-not : MulticastOrNot
+multicast-or-not number = (bit-kept 15 number true .made, bit-kept 15 number false .made)
 
--- the multicast bit as it was set or cleared
-pub multicast-is : (number : ℕ) → isMulticast (multicastOf number) ≡ true
-multicast-is number = bit-kept 15 number true .made
-
-pub anycast-is : (number : ℕ) → isMulticast (anycastOf number) ≡ false
-anycast-is number = bit-kept 15 number false .made
-
--- the type of a type's own number
-pub type-back : (t : HostType) → hostTypeOf (hostTypeNumber t) ≡ read.Known t
+pub types-read-back : TypesReadBack
 unfolding hostTypeOf
-type-back type.None = refl
-type-back type.Ipv4 = refl
-type-back type.Ipv6 = refl
-type-back type.Svc = refl
+types-read-back type.None = refl
+types-read-back type.Ipv4 = refl
+types-read-back type.Ipv6 = refl
+types-read-back type.Svc = refl
 
 -- 1-ff00:0:110, its wildcards, an AS of 49 bits, and the control service by multicast
 pub examples :

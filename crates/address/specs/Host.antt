@@ -1,5 +1,6 @@
 -- Hosts: the types that have a name, and the host kinds on the wire (the draft's DT and DL, ST and SL).
 use Prim.Native.Nat.{ℕ}
+use mathlib.Core.Path.{_≡_}
 use mathlib.Core.Bool.{cond}
 use lib.Dec.{eqb}
 use Rattle.address.specs.declared.host.HostAddr.{HostAddr}
@@ -24,6 +25,10 @@ hostTypeOf byte =
     cond (eqb byte 0) (read.Known type.None)
     (cond (eqb byte 1) (read.Known type.Ipv4)
     (cond (eqb byte 2) (read.Known type.Ipv6) (cond (eqb byte 3) (read.Known type.Svc) read.Unknown)))
+
+-- the type of a type's own number is the type
+abbrev pub TypesReadBack : Type 0
+TypesReadBack = (t : HostType) → hostTypeOf (hostTypeNumber t) ≡ read.Known t
 
 abbrev pub typeOfHost : HostAddr → HostType
 typeOfHost addr.V4 = type.Ipv4

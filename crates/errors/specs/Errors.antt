@@ -1,5 +1,6 @@
 -- The answers: document 01's number of each refusal, and the value that 2 and 3 carry; 0 for what is accepted.
 use Prim.Native.Nat.{ℕ}
+use mathlib.Core.Path.{_≡_}
 use Rattle.wire_encoding.specs.Result.{Result, told}
 use Rattle.errors.specs.declared.path_error.DataplanePathErrorKind.{DataplanePathErrorKind}
 use Rattle.errors.specs.declared.path_error.DataplanePathErrorKind.the-variants as kind
@@ -80,6 +81,10 @@ decodedValue (decoded.Refused error) = decodeValue error
 abbrev pub answerValue : Answer → ℕ
 answerValue answer.Accepted = 0
 answerValue (answer.Refused error) = pathValue error
+
+-- a theorem: the value is zero unless the number is 2 or 3
+abbrev pub ValueOfTwoAndThree : Type 0
+ValueOfTwoAndThree = (error : PathError) → (pathNumber error ≡ 2 → ⊥) → (pathNumber error ≡ 3 → ⊥) → pathValue error ≡ 0
 
 -- A RESULT AS IT IS HANDED BACK
 

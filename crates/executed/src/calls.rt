@@ -78,7 +78,10 @@ fn change(number: usize, line: &[u8], bytes: &mut [u8], index: usize) {
     match number {
         1 => travel::alert(line, bytes, index),
         // `move T B`: the bytes after a single move.
-        2 => travel::done(path_moves::single_move(words::u8_at(line, 1), bytes)),
+        2 => travel::done(path_moves::single_move(
+            DataplanePath::new(words::u8_at(line, 1)),
+            bytes,
+        )),
         3 => travel::walk(line, bytes, index),
         // `put 2 B at n`: a 16-bit number written.
         4 => values::put(put_u16(bytes, index, words::u16_at(line, 4))),
@@ -130,7 +133,7 @@ fn write(number: usize, line: &[u8], bytes: &[u8], dst: &mut [u8]) {
         // `copy T B D`: the path copied to a destination that holds D.
         1 => travel::done(copy_to_slice(path, bytes, dst)),
         // `turn T B D`: the path reversed into a destination that holds D.
-        2 => travel::done(reverse_to_slice(path.path_type, bytes, dst)),
+        2 => travel::done(reverse_to_slice(path, bytes, dst)),
         3 => meta_headers::encode(line, dst),
         // `putaddress`, the eight words of an address header, and D: an address header written alone.
         4 => packets::encoded(packets::address_at(line, 1).encode_to(dst)),

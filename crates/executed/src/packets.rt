@@ -102,9 +102,9 @@ pub fn packet(bytes: &[u8]) {
     address_record(packet.address);
     meta_headers::record(packet.path.meta_header);
     print::number(packet.path_part.start as u64);
-    print::bytes(ScionPacketRaw::path(bytes));
+    print::bytes(packet.path(bytes));
     print::number(packet.payload_part.start as u64);
-    print::bytes(ScionPacketRaw::payload(bytes));
+    print::bytes(packet.payload(bytes));
 }
 
 // A host of a kind: IPv4, IPv6, a service, or a kind without a name.

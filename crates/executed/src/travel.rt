@@ -15,15 +15,16 @@ pub fn alert(line: &[u8], bytes: &mut [u8], index: usize) {
     let path = DataplanePath::new(words::u8_at(line, 1));
     let enable = words::flag_at(line, 5);
     if words::flag_at(line, 4) {
-        done(path_interfaces::set_cons_ingress_router_alert(path, bytes, index, enable));
+        done(path.set_cons_ingress_router_alert(bytes, index, enable));
     } else {
-        done(path_interfaces::set_cons_egress_router_alert(path, bytes, index, enable));
+        done(path.set_cons_egress_router_alert(bytes, index, enable));
     }
 }
 
 // `walk T B limit`: how many moves a walk made, whether it stands at the last hop field, and the bytes after it.
 pub fn walk(line: &[u8], bytes: &mut [u8], limit: usize) {
-    let walked = path_moves::walk(words::u8_at(line, 1), bytes, limit);
+    let path = DataplanePath::new(words::u8_at(line, 1));
+    let walked = path_moves::walk(path, bytes, limit);
     let answer = walked.answer;
     print::answer(answer);
     print::number(walked.moves as u64);

@@ -17,7 +17,7 @@ fn accepted(bytes: &[u8], packet: ScionPacketRaw) {
     let meta_header = path.meta_header;
     let path_part = packet.path_part;
     let payload_part = packet.payload_part;
-    let path_bytes = ScionPacketRaw::path(bytes);
+    let path_bytes = packet.path(bytes);
     text::text_line(b"answer", b"0 accepted");
     header_lines::common(common);
     header_lines::address(address);
@@ -29,7 +29,7 @@ fn accepted(bytes: &[u8], packet: ScionPacketRaw) {
     }
     text::text(b"payload\n");
     text::number_line(b"  starts at", payload_part.start as u64);
-    text::hex_line(b"  bytes", ScionPacketRaw::payload(bytes));
+    text::hex_line(b"  bytes", packet.payload(bytes));
 }
 
 // One packet.

@@ -57,7 +57,7 @@ fn hop_field(info: InfoField, field: HopField, j: usize, current: usize) {
 
 // The hop fields of a segment.
 fn hop_fields(bytes: &[u8], info: InfoField, first: usize, count: usize, current: usize)
-    requires { ⌜ first + count ≤ 765 ⌝ }
+    requires { ⌜ first + count ≤ 1020 ⌝ }
 {
     let mut i: usize = 0;
     while i < count {
@@ -135,7 +135,7 @@ fn interfaces(bytes: &[u8], meta_header: PathMetaHeader) {
 // Whether the packet can be moved on from where it stands, tried on a copy: 0, or the number of the refusal.
 fn onward(bytes: &[u8], copy: &mut [u8]) {
     copy_to_slice(standard(), bytes, copy);
-    let moved = path_moves::single_move(1, copy);
+    let moved = path_moves::single_move(standard(), copy);
     let answer = moved.answer;
     text::name(b"  next move");
     match answer {
@@ -147,7 +147,7 @@ fn onward(bytes: &[u8], copy: &mut [u8]) {
 
 // The path of a reply.
 fn reply(bytes: &[u8], turned: &mut [u8]) {
-    path_reverse::reverse_to_slice(1, bytes, turned);
+    path_reverse::reverse_to_slice(standard(), bytes, turned);
     text::hex_line(b"  reply's path", turned);
 }
 

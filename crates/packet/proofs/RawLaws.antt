@@ -2,14 +2,14 @@
 -- Assumes nothing.
 use mathlib.Core.Path.{_≡_, refl, sym, ap, subst, _∙_}
 use mathlib.Core.Bool.{Bool, true, false}
-use mathlib.Core.List.{List, []}
+use mathlib.Core.List.{List}
 use Prim.Native.Nat.{ℕ, _+_, _-_, _≤_, _<_, min}
 use native.Mathlib.Omega.{arith}
 use lib.ListN.{length, take, drop, length-drop, drop-of-length-le}
 use lib.Seq.{take-add, take-all, take-length, drop-length, drop-at, length-take-le}
 use lib.Dec.{leb, eqb}
 use borrow.Author.Tests.{lt-leb, le-leb, leb-true, leb-false, eq-eqb, ne-eqb, eqb-true}
-use Rattle.wire_encoding.specs.Result.{Result, ok, refused, told}
+use Rattle.wire_encoding.specs.Result.{Result, ok, refused}
 use Rattle.wire_encoding.specs.BigEndian.{part}
 use Rattle.wire_encoding.proofs.Result.{same-value, held, stepped}
 use Rattle.wire_encoding.proofs.Lists.{length-part}
@@ -18,7 +18,6 @@ use Rattle.errors.specs.declared.packet_error.DecodeError.{DecodeError}
 use Rattle.errors.specs.declared.packet_error.DecodeError.the-variants.{PacketEmptyOrTruncated, InconsistentPathLength}
 use Rattle.path.specs.Standard.{pathUnder}
 use Rattle.path.specs.Dataplane.{Extent, readDataplane, partIn}
-use Rattle.path.specs.declared.standard.Part.{Part}
 use Rattle.packet_common_header.specs.CommonHeader.{commonAt, factorOf, zeroCommon, readCommon, commonAnswer, headerLength}
 use Rattle.packet_common_header.specs.declared.CommonHeader.{CommonHeader}
 use Rattle.packet_common_header.specs.declared.CommonHeaderRead.{CommonHeaderRead}
@@ -27,8 +26,8 @@ use Rattle.packet_common_header.proofs.CommonHeaderLaws.{common-known}
 use Rattle.packet_address_header.specs.AddressHeader.{zeroAddress, addressLength, lengthOfKinds, readAddress, addressAnswer}
 use Rattle.packet_address_header.specs.declared.AddressHeader.{AddressHeader}
 use Rattle.packet_address_header.specs.declared.AddressHeaderRead.{AddressHeaderRead}
-use Rattle.packet_address_header.proofs.ReadingLaws.{address-known, address-length}
-use Rattle.packet.specs.Raw.{Packet, readPacket, pathPart, payloadPart, packetAnswer, pathOf, payloadOf}
+use Rattle.packet_address_header.proofs.AddressHeaderLaws.{address-known, address-length}
+use Rattle.packet.specs.Raw.{Packet, readPacket, pathPart, payloadPart, packetAnswer, PartsOfThePacket}
 
 -- WHAT A STAGE HANDED BACK
 
@@ -214,44 +213,20 @@ module _ {bytes : List ℕ} {p : Packet} (s : Split bytes p) where
   pub payload-start : 12 + addressLength (p .address) + length (p .path-bytes) ≡ min (headerLength (p .common)) (length bytes)
   payload-start = omega (arith, start-inside where-found, ap length (s .path-is) ∙ length-path where-found)
 
-  pub path-lies : (pathPart p .start + pathPart p .len ≤ length bytes) × (partIn bytes (pathPart p) ≡ p .path-bytes)
+  pub path-lies : partIn bytes (pathPart p) ≡ p .path-bytes
   unfolding pathPart
   path-lies =
-      let n = ap length (s .path-is) ∙ length-path where-found in (
-        omega (arith, payload-start),
-        ap (λ (k : ℕ). part (12 + addressLength (p .address)) k bytes) n ∙ sees-path where-found ∙ sym (s .path-is),
-      )
+      let size = ap length (s .path-is) ∙ length-path where-found in
+      ap (λ (k : ℕ). part (12 + addressLength (p .address)) k bytes) size ∙ sees-path where-found ∙ sym (s .path-is)
 
-  pub payload-lies : (payloadPart p .start + payloadPart p .len ≤ length bytes) × (partIn bytes (payloadPart p) ≡ p .payload)
+  pub payload-lies : partIn bytes (payloadPart p) ≡ p .payload
   unfolding payloadPart
   payload-lies =
       let n : ℕ = p .common .«payload_length» in
       let m : ℕ = headerLength (p .common) in
       let size : length (p .payload) ≡ n = ap length (s .payload-is) ∙ length-take-le n (drop m bytes) (s .room) in
-      let rest = length-rest where-found in (
-        omega (arith, payload-start, size, rest, s .room),
-        rw (payload-start, size) (ap (take n) (clipped m (min m (length bytes)) bytes refl .1) ∙ sym (s .payload-is)),
-      )
+      rw (payload-start, size) (ap (take n) (clipped m (min m (length bytes)) bytes refl .1) ∙ sym (s .payload-is))
 
--- WHAT IS HANDED BACK OF ANY BYTES
-
--- a part that lies inside the bytes and holds these
-pub record Lies (bytes : List ℕ) (x : Part) (own : List ℕ) : Type 0 where
-  pub inside : x .start + x .len ≤ length bytes
-  pub holds : partIn bytes x ≡ own
-
-pub path-handed : (bytes : List ℕ) → Lies bytes (packetAnswer (readPacket bytes) .«path_part») (pathOf bytes)
-unfolding packetAnswer pathOf
-path-handed bytes = go (readPacket bytes) refl
-  where
-    go : (r : Result DecodeError Packet) → readPacket bytes ≡ r → Lies bytes (packetAnswer r .«path_part») (told r (λ p. p .path-bytes) (λ error. []))
-    go (ok p) e = let lies = path-lies (split bytes e) in record { inside = lies .0; holds = lies .1 }
-    go (refused error) e = record { inside = omega arith; holds = refl }
-
-pub payload-handed : (bytes : List ℕ) → Lies bytes (packetAnswer (readPacket bytes) .«payload_part») (payloadOf bytes)
-unfolding packetAnswer payloadOf
-payload-handed bytes = go (readPacket bytes) refl
-  where
-    go : (r : Result DecodeError Packet) → readPacket bytes ≡ r → Lies bytes (packetAnswer r .«payload_part») (told r (λ p. p .payload) (λ error. []))
-    go (ok p) e = let lies = payload-lies (split bytes e) in record { inside = lies .0; holds = lies .1 }
-    go (refused error) e = record { inside = omega arith; holds = refl }
+pub parts-of-the-packet : PartsOfThePacket
+unfolding packetAnswer
+parts-of-the-packet bytes p read = rw read (path-lies (split bytes read), payload-lies (split bytes read))

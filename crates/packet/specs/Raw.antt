@@ -1,16 +1,17 @@
 -- A packet: the draft's Common Header, Address Header, path and payload, one after the other.
 use Prim.Native.Nat.{ℕ, _+_}
+use mathlib.Core.Path.{_≡_}
 use mathlib.Core.List.{List, []}
 use lib.ListN.{length, take, drop}
 use lib.Dec.{leb, eqb}
-use Rattle.wire_encoding.specs.Result.{Result, ok, require, _>>_, _>>=_, orElse, told}
+use Rattle.wire_encoding.specs.Result.{Result, ok, require, _>>_, _>>=_, mapped, orElse}
 use Rattle.errors.specs.declared.packet_error.DecodeError.{DecodeError}
 use Rattle.errors.specs.declared.packet_error.DecodeError.the-variants.{PacketEmptyOrTruncated, InconsistentPathLength}
 use Rattle.path_meta_header.specs.MetaHeader.{metaOf}
 use Rattle.path_meta_header.specs.declared.PathMetaHeader.{PathMetaHeader}
 use Rattle.path.specs.Standard.{pathUnder}
 use Rattle.path.specs.Segment.{nowhere}
-use Rattle.path.specs.Dataplane.{readDataplane}
+use Rattle.path.specs.Dataplane.{readDataplane, partIn}
 use Rattle.path.specs.declared.standard.Part.{Part}
 use Rattle.errors.specs.Errors.{decodedOf}
 use Rattle.packet_common_header.specs.CommonHeader.{zeroCommon, readCommon, headerLength}
@@ -40,29 +41,34 @@ readPacket bytes = do
   require (leb (c .«payload_length») (length rest)) PacketEmptyOrTruncated
   ok (record { common = c; address = a; path = read .header; path-bytes = path; payload = take (c .«payload_length») rest })
 
--- where path and payload lie: each begins where what stands before it ends
+-- where the path lies: after the other headers
 unfoldable pub pathPart : Packet → Part
 pathPart p = record { start = 12 + addressLength (p .address); len = length (p .path-bytes) }
 
+-- where the payload lies: after the path
 unfoldable pub payloadPart : Packet → Part
 payloadPart p = record { start = 12 + addressLength (p .address) + length (p .path-bytes); len = length (p .payload) }
+
+-- every field zero, and no bytes
+abbrev pub zeroPacket : Packet
+zeroPacket = record { common = zeroCommon; address = zeroAddress; path = metaOf 0; path-bytes = []; payload = [] }
 
 -- as it is handed back; all zero where it is refused
 unfoldable pub packetAnswer : Result DecodeError Packet → ScionPacketRaw
 packetAnswer r =
-    let p = orElse r (record { common = zeroCommon; address = zeroAddress; path = metaOf 0; path-bytes = []; payload = [] }) in
+    let p = orElse r zeroPacket in
     record {
       answer = decodedOf r;
       common = p .common;
       address = p .address;
       path = pathUnder (p .path);
-      «path_part» = told r pathPart (λ error. nowhere);
-      «payload_part» = told r payloadPart (λ error. nowhere);
+      «path_part» = orElse (mapped pathPart r) nowhere;
+      «payload_part» = orElse (mapped payloadPart r) nowhere;
     }
 
--- the bytes of path and payload; none where the packet is refused
-unfoldable pub pathOf : List ℕ → List ℕ
-pathOf bytes = told (readPacket bytes) (λ p. p .path-bytes) (λ error. [])
-
-unfoldable pub payloadOf : List ℕ → List ℕ
-payloadOf bytes = told (readPacket bytes) (λ p. p .payload) (λ error. [])
+-- of a packet that is accepted, the parts that are handed back hold the path and the payload
+abbrev pub PartsOfThePacket : Type 0
+PartsOfThePacket =
+    (bytes : List ℕ) (p : Packet) → readPacket bytes ≡ ok p
+    → let answer = packetAnswer (readPacket bytes) in
+    (partIn bytes (answer .«path_part») ≡ p .path-bytes) × (partIn bytes (answer .«payload_part») ≡ p .payload)

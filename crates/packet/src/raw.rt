@@ -6,9 +6,11 @@ use packet_common_header::CommonHeader;
 use path::dataplane::DataplanePath;
 use path::standard::Part;
 use path::standard::StandardPath;
+use wire_encoding::read::part_of;
 ghost use mathlib.Core.Path.{_≡_};
 ghost use Prim.Native.Nat.{_≤_, min};
 ghost use Rattle.wire_encoding.specs.Result.{refused};
+ghost use Rattle.path.specs.Dataplane.{partIn};
 ghost use Rattle.packet_common_header.specs.CommonHeader.{headerLength};
 ghost use Rattle.packet.specs.Raw as spec;
 
@@ -99,25 +101,19 @@ impl ScionPacketRaw {
         }
     }
 
-    // The path's own bytes; none where the packet is refused.
-    pub fn path(bytes: &[u8]) -> &[u8]
-        ensures { λ r. ⌜ now r ≡ spec.pathOf (now (bytes .entry)) ⌝ }
+    // The path of the packet: the part of its bytes that this answer names.
+    pub fn path(self, bytes: &[u8]) -> &[u8]
+        ensures { λ r. ⌜ now r ≡ partIn (now (bytes .entry)) (self .«path_part») ⌝ }
     {
-        let packet = ScionPacketRaw::decode(bytes);
-        let part = packet.path_part;
-        let start = part.start;
-        let len = part.len;
-        &bytes[start..start + len]
+        let part = self.path_part;
+        part_of(bytes, part.start, part.len)
     }
 
-    // The payload's own bytes; none where the packet is refused.
-    pub fn payload(bytes: &[u8]) -> &[u8]
-        ensures { λ r. ⌜ now r ≡ spec.payloadOf (now (bytes .entry)) ⌝ }
+    // The payload of the packet: the part of its bytes that this answer names.
+    pub fn payload(self, bytes: &[u8]) -> &[u8]
+        ensures { λ r. ⌜ now r ≡ partIn (now (bytes .entry)) (self .«payload_part») ⌝ }
     {
-        let packet = ScionPacketRaw::decode(bytes);
-        let part = packet.payload_part;
-        let start = part.start;
-        let len = part.len;
-        &bytes[start..start + len]
+        let part = self.payload_part;
+        part_of(bytes, part.start, part.len)
     }
 }

@@ -1,11 +1,12 @@
--- The draft's Address Header: DstISD and DstAS, SrcISD and SrcAS, DstHostAddr, SrcHostAddr; what reading one finds, and what writing one does.
+-- The draft's Address Header: DstISD and DstAS, SrcISD and SrcAS (a network number of 64 bits each), DstHostAddr, SrcHostAddr; what
+-- reading one finds, and what writing one does.
 use Prim.Native.Nat.{ℕ, _+_}
 use mathlib.Core.Bool.{true, false, cond, _&&_}
-use mathlib.Core.List.{List, [], _++_}
+use mathlib.Core.List.{List, [], _∷_, _++_}
 use lib.ListN.{length, take, replicate}
 use lib.Seq.{sets}
 use lib.Dec.{ltb, leb, eqb}
-use Rattle.wire_encoding.specs.Result.{Result, ok, require, _>>_, orElse, told}
+use Rattle.wire_encoding.specs.Result.{Result, ok, require, _>>_, mapped, orElse}
 use Rattle.wire_encoding.specs.BigEndian.{bigEndian, bytesOf, part}
 use Rattle.address.specs.Host.{hostKind}
 use Rattle.address.specs.ScionAddress.{addressOf}
@@ -48,7 +49,7 @@ hostAt kind bytes at =
     cond (eqb kind 4) (record { host = Decoded (Svc (record { 0 = bigEndian 2 bytes at })); bytes = replicate 16 0 })
     (record { host = hostOfKind kind; bytes = padded bytes at (hostLength kind) })
 
--- a host that has a name, with its network
+-- a host that has a name, with its network; all zero where it has none
 unfoldable pub endhostIn : MaybeEncoded → List ℕ → IsdAsn → EndhostAddr
 endhostIn (Decoded host) bytes ia = record { known = true; address = addressOf ia host bytes }
 endhostIn (Encoded kind) bytes ia =
@@ -59,6 +60,7 @@ endhostOf a ia = endhostIn (a .host) (a .bytes) ia
 
 -- THE HEADER
 
+-- the header of two ends whose hosts have names
 unfoldable pub addressHeaderOf : ScionAddr → ScionAddr → AddressHeader
 addressHeaderOf destination source =
     record {
@@ -95,26 +97,52 @@ readAddress bytes destination source = do
   require (leb (16 + hostLength destination + hostLength source) (length bytes)) PacketEmptyOrTruncated
   ok (addressAt bytes destination source)
 
--- as it is handed back, beside its length; all zero where it is refused
+-- every field zero
 unfoldable pub zeroAddress : AddressHeader
 zeroAddress = addressAt [] 0 0
 
+-- as it is handed back, beside its length; all zero where it is refused
 unfoldable pub addressAnswer : Result DecodeError AddressHeader → AddressHeaderRead
-addressAnswer r = record { answer = decodedOf r; header = orElse r zeroAddress; length = told r addressLength (λ error. 0) }
+addressAnswer r =
+    record { answer = decodedOf r; header = orElse r zeroAddress; length = orElse (mapped addressLength r) 0 }
 
 -- WRITING
 
--- a service is its number, 2 bytes, then 2 padding bytes of zero; any other host is its first bytes
+-- a host's own bytes: IPv4 has 4, IPv6 16; a service is its number, 2 bytes, then 2 padding bytes of zero
+unfoldable pub hostBytesOf : MaybeEncoded → List ℕ → List ℕ
+hostBytesOf (Decoded V4) bytes = take 4 bytes
+hostBytesOf (Decoded V6) bytes = take 16 bytes
+hostBytesOf (Decoded (Svc service)) bytes = bytesOf 2 (service .0) ++ (0 ∷ 0 ∷ [])
+hostBytesOf (Encoded kind) bytes = take (hostLength kind) bytes
+
+unfoldable pub hostBytes : HostAddress → List ℕ
+hostBytes a = hostBytesOf (a .host) (a .bytes)
+
+-- the header's bytes, in the draft's order
+unfoldable pub addressBytes : AddressHeader → List ℕ
+addressBytes a =
+    bytesOf 8 (a .«destination_ia» .0) ++ (bytesOf 8 (a .«source_ia» .0) ++ (hostBytes (a .destination) ++ hostBytes (a .source)))
+
+-- what a destination of this size then holds; 01's order: a host kind of more than 4 bits, another size
+unfoldable pub writeAddress : AddressHeader → ℕ → Result EncodeError (List ℕ)
+writeAddress a size = do
+  require (ltb (kindOf (a .destination .host)) 16 && ltb (kindOf (a .source .host)) 16) NumberTooWide
+  require (eqb size (addressLength a)) InadequateBufferSize
+  ok (addressBytes a)
+
+-- THE HEADER AS IT IS ON THE WIRE, BY NUMBERS ALONE
+
+-- a service's number, then zeros
 unfoldable pub serviceBytes : ℕ → List ℕ
 serviceBytes number = sets (replicate 16 0) 0 (bytesOf 2 number)
 
+-- sixteen bytes that begin with the host's own
 unfoldable pub rawOf : MaybeEncoded → List ℕ → List ℕ
 rawOf (Decoded V4) bytes = bytes
 rawOf (Decoded V6) bytes = bytes
 rawOf (Decoded (Svc service)) bytes = serviceBytes (service .0)
 rawOf (Encoded kind) bytes = bytes
 
--- as it is on the wire
 unfoldable pub hostOnWire : HostAddress → WireHost
 hostOnWire a = record { kind = kindOf (a .host); bytes = rawOf (a .host) (a .bytes) }
 
@@ -127,30 +155,13 @@ onWire a =
       source = hostOnWire (a .source);
     }
 
--- a host's own bytes
-unfoldable pub wireHostBytes : WireHost → List ℕ
-wireHostBytes w = take (hostLength (w .kind)) (w .bytes)
-
+-- its length and its bytes
 unfoldable pub wireLength : WireAddress → ℕ
 wireLength w = lengthOfKinds (w .destination .kind) (w .source .kind)
+
+unfoldable pub wireHostBytes : WireHost → List ℕ
+wireHostBytes w = take (hostLength (w .kind)) (w .bytes)
 
 unfoldable pub wireBytes : WireAddress → List ℕ
 wireBytes w =
     bytesOf 8 (w .«destination_ia») ++ (bytesOf 8 (w .«source_ia») ++ (wireHostBytes (w .destination) ++ wireHostBytes (w .source)))
-
--- as bytes
-unfoldable pub hostBytes : HostAddress → List ℕ
-hostBytes a = wireHostBytes (hostOnWire a)
-
-unfoldable pub addressBytes : AddressHeader → List ℕ
-addressBytes a = wireBytes (onWire a)
-
--- what a destination of n bytes then holds: a host kind of more than 4 bits, another size
-unfoldable pub writeWire : WireAddress → ℕ → Result EncodeError (List ℕ)
-writeWire w n = do
-  require (ltb (w .destination .kind) 16 && ltb (w .source .kind) 16) NumberTooWide
-  require (eqb n (wireLength w)) InadequateBufferSize
-  ok (wireBytes w)
-
-unfoldable pub writeAddress : AddressHeader → ℕ → Result EncodeError (List ℕ)
-writeAddress a n = writeWire (onWire a) n

@@ -22,7 +22,7 @@ ghost use Prim.Native.Nat.{_+_, _≤_};
 ghost use lib.ListN.{length};
 ghost use lib.Seq.{sets};
 ghost use Rattle.wire_encoding.specs.Answers.{putAnswer};
-ghost use Rattle.wire_encoding.specs.BigEndian.{bytesOf, placed, written};
+ghost use Rattle.wire_encoding.specs.BigEndian.{placed, written};
 ghost use Rattle.wire_encoding.specs.Result.{orElse};
 ghost use Rattle.errors.specs.Errors.{encodedOf};
 ghost use Rattle.packet_common_header.specs.CommonHeader.{hostLength};
@@ -120,16 +120,6 @@ impl WireHost {
     }
 }
 
-// Writes an end's host at `host_at` and its network before it, at `at`, where there is room for both. The host goes first: after its
-// loop the compiler stores the network's eight bytes at once.
-fn put_end(network: u64, host: WireHost, dst: &mut [u8], at: usize, host_at: usize)
-    requires { ⌜ (at + 8 ≤ «host_at») × («host_at» + hostLength (host .kind) ≤ length (now dst)) ⌝ }
-    ensures { λ _. ⌜ now (dst .exit) ≡ sets (sets (now (dst .entry)) at (bytesOf 8 network)) «host_at» (spec.wireHostBytes host) ⌝ }
-{
-    host.put(dst, host_at);
-    put_u64(dst, at, network);
-}
-
 impl WireAddress {
     // How many bytes the header has on the wire.
     pub fn encoded_length(self) -> usize
@@ -140,45 +130,25 @@ impl WireAddress {
             + self.source.encoded_length()
     }
 
-    // Whether the header can be written to `size` bytes.
-    fn check(self, size: usize) -> Encoded
-        ensures { λ r. ⌜ r ≡ encodedOf (spec.writeWire self size) ⌝ }
-    {
-        if 16 <= self.destination.kind {
-            return Encoded::Refused(EncodeError::NumberTooWide);
-        }
-        if 16 <= self.source.kind {
-            return Encoded::Refused(EncodeError::NumberTooWide);
-        }
-        if size == self.encoded_length() {
-            return Encoded::Done;
-        }
-        Encoded::Refused(EncodeError::InadequateBufferSize)
-    }
-
-    // Writes both ends at `at`, where there is room for them.
-    fn write(self, dst: &mut [u8], at: usize)
-        requires { ⌜ at + spec.wireLength self ≤ length (now dst) ⌝ }
-        ensures { λ _. ⌜ now (dst .exit) ≡ sets (now (dst .entry)) at (spec.wireBytes self) ⌝ }
-    {
-        let hosts = at + AddressHeader::BASE_LENGTH;
-        let last = hosts + self.destination.encoded_length();
-        put_end(self.destination_ia, self.destination, dst, at, hosts);
-        put_end(self.source_ia, self.source, dst, at + 8, last);
-    }
-
-    // Writes all of the header at `at`, or nothing for want of room.
+    // Writes all of the header at `at`, or nothing for want of room. Each host goes before its network: after its loop the compiler
+    // stores the network's eight bytes at once.
     pub fn put(self, dst: &mut [u8], at: usize) -> Put
         ensures { λ r. ⌜ r ≡ putAnswer (written (now (dst .entry)) at (spec.wireBytes self)) ⌝ }
         ensures { λ _. ⌜ now (dst .exit) ≡ placed (now (dst .entry)) at (spec.wireBytes self) ⌝ }
     {
-        if at <= dst.len() {
-            if self.encoded_length() <= dst.len() - at {
-                self.write(dst, at);
-                return Put::Done;
-            }
+        if dst.len() < at {
+            return Put::InadequateBufferSize;
         }
-        Put::InadequateBufferSize
+        if dst.len() - at < self.encoded_length() {
+            return Put::InadequateBufferSize;
+        }
+        let destination_at = at + AddressHeader::BASE_LENGTH;
+        let source_at = destination_at + self.destination.encoded_length();
+        self.destination.put(dst, destination_at);
+        put_u64(dst, at, self.destination_ia);
+        self.source.put(dst, source_at);
+        put_u64(dst, at + 8, self.source_ia);
+        Put::Done
     }
 }
 
@@ -396,12 +366,16 @@ impl AddressHeader {
         ensures { λ _. ⌜ now (dst .exit) ≡ orElse (spec.writeAddress self (length (now (dst .entry)))) (now (dst .entry)) ⌝ }
     {
         let wire = self.on_wire();
-        match wire.check(dst.len()) {
-            Encoded::Done => {
-                wire.put(dst, 0);
-                Encoded::Done
-            }
-            Encoded::Refused(error) => Encoded::Refused(error),
+        if 16 <= wire.destination.kind {
+            return Encoded::Refused(EncodeError::NumberTooWide);
         }
+        if 16 <= wire.source.kind {
+            return Encoded::Refused(EncodeError::NumberTooWide);
+        }
+        if dst.len() != wire.encoded_length() {
+            return Encoded::Refused(EncodeError::InadequateBufferSize);
+        }
+        wire.put(dst, 0);
+        Encoded::Done
     }
 }

@@ -31,22 +31,25 @@ commonAt bytes =
       reserved = bigEndian 2 bytes 10;
     }
 
--- the length of all headers: 4 × factor; of those after this one; of a host of a kind: 4 × ((kind mod 4) + 1)
+-- the length of all headers; the factor is HdrLen
 unfoldable pub headerLength : CommonHeader → ℕ
-headerLength c = c .«header_length_factor» * 4
+headerLength c = 4 * c .«header_length_factor»
 
+-- the length of those after the common header
 unfoldable pub remainingHeaderLength : CommonHeader → ℕ
 remainingHeaderLength c = headerLength c - 12
 
+-- the length of a host of a kind; kind mod 4 is DL, or SL
 unfoldable pub hostLength : ℕ → ℕ
-hostLength kind = (kind % 4 + 1) * 4
+hostLength kind = 4 * (kind % 4 + 1)
 
 -- READING
 
--- the version stands in the first byte's high half
+-- Version, the first byte's high half
 abbrev pub versionOf : List ℕ → ℕ
 versionOf bytes = getD bytes 0 0 / 16
 
+-- HdrLen
 abbrev pub factorOf : List ℕ → ℕ
 factorOf bytes = getD bytes 5 0
 
@@ -59,15 +62,17 @@ readCommon bytes = do
   require (leb 9 (factorOf bytes)) (decode.InvalidHeaderLength (factorOf bytes))
   ok (commonAt bytes)
 
--- as it is handed back; all zero where it is refused
+-- every field zero
 unfoldable pub zeroCommon : CommonHeader
 zeroCommon = commonAt []
 
+-- as it is handed back; all zero where it is refused
 unfoldable pub commonAnswer : Result DecodeError CommonHeader → CommonHeaderRead
 commonAnswer r = record { answer = decodedOf r; header = orElse r zeroCommon }
 
 -- WRITING
 
+-- the twelve bytes of the fields
 unfoldable pub commonBytes : CommonHeader → List ℕ
 commonBytes c =
     bytesOf 4 ((c .version * 256 + c .«traffic_class») * 2 ^ 20 + c .«flow_id»)
@@ -79,13 +84,14 @@ commonBytes c =
 unfoldable pub fieldsFit : ℕ → ℕ → ℕ → ℕ → Bool
 fieldsFit version flow destination source = ltb version 16 && ltb flow (2 ^ 20) && ltb destination 16 && ltb source 16
 
+-- no number of the header is wider than its field
 unfoldable pub commonFits : CommonHeader → Bool
 commonFits c = fieldsFit (c .version) (c .«flow_id») (c .«destination_kind») (c .«source_kind»)
 
--- what a destination of n bytes then holds: a number too wide, factor 0, another size
+-- what a destination of this size then holds; 01's order: a number too wide, factor 0, another size
 unfoldable pub writeCommon : CommonHeader → ℕ → Result EncodeError (List ℕ)
-writeCommon c n = do
+writeCommon c size = do
   require (commonFits c) encode.NumberTooWide
   require (not (eqb (c .«header_length_factor») 0)) encode.InvalidHeaderLength
-  require (eqb n 12) encode.InadequateBufferSize
+  require (eqb size 12) encode.InadequateBufferSize
   ok (commonBytes c)

@@ -8,7 +8,6 @@ use wire_encoding::read::u32_or_zero;
 use wire_encoding::read::wide;
 use wire_encoding::write::put_slice;
 ghost use mathlib.Core.Path.{_≡_};
-ghost use mathlib.Core.Bool.{true};
 ghost use Prim.Native.Nat.{_≤_, _<_};
 ghost use lib.ListN.{length};
 ghost use Rattle.packet_common_header.specs.CommonHeader as spec;
@@ -52,30 +51,7 @@ impl AddressInfo {
         ensures { λ r. ⌜ (r ≡ spec.hostLength (self .0)) × (r ≤ 16) ⌝ }
     {
         let kind = wide(self.0);
-        (kind % 4 + 1) * 4
-    }
-}
-
-// The fields of a common header, which is there.
-fn fields(bytes: &[u8]) -> CommonHeader
-    requires { ⌜ 12 ≤ length (now bytes) ⌝ }
-    ensures { λ r. ⌜ r ≡ spec.commonAt (now (bytes .entry)) ⌝ }
-{
-    let first = u32_or_zero(bytes, 0);
-    let payload_length = u16_or_zero(bytes, 6);
-    let reserved = u16_or_zero(bytes, 10);
-    let kinds = bytes[9];
-    CommonHeader {
-        version: (first / 0x1000_0000 % 16) as u8,
-        traffic_class: (first / 0x10_0000 % 256) as u8,
-        flow_id: first % 0x10_0000,
-        next_header: bytes[4],
-        header_length_factor: bytes[5],
-        payload_length,
-        path_type: bytes[8],
-        destination_kind: kinds / 16,
-        source_kind: kinds % 16,
-        reserved,
+        4 * (kind % 4 + 1)
     }
 }
 
@@ -126,7 +102,7 @@ impl CommonHeader {
     pub fn header_length(self) -> usize
         ensures { λ r. ⌜ (r ≡ spec.headerLength self) × (r ≤ 1020) ⌝ }
     {
-        wide(self.header_length_factor) * 4
+        4 * wide(self.header_length_factor)
     }
 
     // The length of the headers after this one.
@@ -165,41 +141,31 @@ impl CommonHeader {
         if factor < CommonHeader::MIN_HEADER_LENGTH_FACTOR {
             return CommonHeaderRead::refused(DecodeError::InvalidHeaderLength(factor));
         }
-        let header = fields(bytes);
+        let first = u32_or_zero(bytes, 0);
+        let payload_length = u16_or_zero(bytes, 6);
+        let reserved = u16_or_zero(bytes, 10);
+        let kinds = bytes[9];
         CommonHeaderRead {
             answer: Decoded::Accepted,
-            header,
+            header: CommonHeader {
+                version: (first / 0x1000_0000 % 16) as u8,
+                traffic_class: (first / 0x10_0000 % 256) as u8,
+                flow_id: first % 0x10_0000,
+                next_header: bytes[4],
+                header_length_factor: factor,
+                payload_length,
+                path_type: bytes[8],
+                destination_kind: kinds / 16,
+                source_kind: kinds % 16,
+                reserved,
+            },
         }
     }
 
-    // The bytes of a common header whose numbers fit.
-    fn to_bytes(self) -> [u8; 12]
-        requires { ⌜ spec.commonFits self ≡ true ⌝ }
-        ensures { λ r. ⌜ r ≡ spec.commonBytes self ⌝ }
-    {
-        let flow_id = self.flow_id;
-        let first = (self.version as u32 * 256 + self.traffic_class as u32) * 0x10_0000 + flow_id;
-        let payload_length = self.payload_length;
-        let reserved = self.reserved;
-        [
-            (first / 0x100_0000) as u8,
-            (first / 0x1_0000 % 256) as u8,
-            (first / 0x100 % 256) as u8,
-            (first % 256) as u8,
-            self.next_header,
-            self.header_length_factor,
-            (payload_length / 256) as u8,
-            (payload_length % 256) as u8,
-            self.path_type,
-            self.destination_kind * 16 + self.source_kind,
-            (reserved / 256) as u8,
-            (reserved % 256) as u8,
-        ]
-    }
-
-    // Whether the header can be written to `size` bytes.
-    fn check(self, size: usize) -> Encoded
-        ensures { λ r. ⌜ r ≡ encodedOf (spec.writeCommon self size) ⌝ }
+    // Writes the header to a destination of exactly 12 bytes, or leaves it as it is.
+    pub fn encode_to(self, dst: &mut [u8]) -> Encoded
+        ensures { λ r. ⌜ r ≡ encodedOf (spec.writeCommon self (length (now (dst .entry)))) ⌝ }
+        ensures { λ _. ⌜ now (dst .exit) ≡ orElse (spec.writeCommon self (length (now (dst .entry)))) (now (dst .entry)) ⌝ }
     {
         if !fields_fit(
             self.version,
@@ -212,25 +178,29 @@ impl CommonHeader {
         if self.header_length_factor == 0 {
             return Encoded::Refused(EncodeError::InvalidHeaderLength);
         }
-        if size == CommonHeader::LENGTH {
-            return Encoded::Done;
+        if dst.len() != CommonHeader::LENGTH {
+            return Encoded::Refused(EncodeError::InadequateBufferSize);
         }
-        Encoded::Refused(EncodeError::InadequateBufferSize)
-    }
-
-    // Writes the header to `dst`, or leaves it as it is.
-    pub fn encode_to(self, dst: &mut [u8]) -> Encoded
-        ensures { λ r. ⌜ r ≡ encodedOf (spec.writeCommon self (length (now (dst .entry)))) ⌝ }
-        ensures { λ _. ⌜ now (dst .exit) ≡ orElse (spec.writeCommon self (length (now (dst .entry)))) (now (dst .entry)) ⌝ }
-    {
-        match self.check(dst.len()) {
-            Encoded::Done => {
-                let raw = self.to_bytes();
-                put_slice(dst, 0, &raw);
-                Encoded::Done
-            }
-            Encoded::Refused(error) => Encoded::Refused(error),
-        }
+        let flow_id = self.flow_id;
+        let first = (self.version as u32 * 256 + self.traffic_class as u32) * 0x10_0000 + flow_id;
+        let payload_length = self.payload_length;
+        let reserved = self.reserved;
+        let raw = [
+            (first / 0x100_0000) as u8,
+            (first / 0x1_0000 % 256) as u8,
+            (first / 0x100 % 256) as u8,
+            (first % 256) as u8,
+            self.next_header,
+            self.header_length_factor,
+            (payload_length / 256) as u8,
+            (payload_length % 256) as u8,
+            self.path_type,
+            self.destination_kind * 16 + self.source_kind,
+            (reserved / 256) as u8,
+            (reserved % 256) as u8,
+        ];
+        put_slice(dst, 0, &raw);
+        Encoded::Done
     }
 }
 

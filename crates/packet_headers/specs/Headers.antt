@@ -1,5 +1,5 @@
 -- All headers of a packet as bytes: the draft's Common Header, Address Header and path, one after the other; and what writing them does.
-use Prim.Native.Nat.{ℕ, _+_, _-_, _/_, _^_, _≤_, min}
+use Prim.Native.Nat.{ℕ, _+_, _-_, _/_, _^_, min}
 use mathlib.Core.Bool.{cond, not}
 use mathlib.Core.List.{List, [], _++_}
 use lib.ListN.{length}
@@ -19,18 +19,19 @@ use Rattle.errors.specs.declared.packet_error.EncodeError.the-variants.{
 }
 use Rattle.packet_headers.specs.declared.ScionHeaders.{ScionHeaders}
 
--- a path to be written is a type byte and bytes: type 0 adds none, any other adds its bytes as given
-unfoldable pub addedLength : ℕ → ℕ → ℕ
-addedLength type n = cond (eqb type 0) 0 n
-
+-- a path to be written is a type byte and bytes: type 0 adds no bytes, any other adds its bytes as given, unread
 unfoldable pub addedBytes : ℕ → List ℕ → List ℕ
 addedBytes type path = cond (eqb type 0) [] path
+
+-- how many bytes a path of n bytes adds
+unfoldable pub addedLength : ℕ → ℕ → ℕ
+addedLength type n = cond (eqb type 0) 0 n
 
 -- the length of all headers with a path of n bytes: it need not be a multiple of 4
 unfoldable pub headersLength : AddressHeader → ℕ → ℕ → ℕ
 headersLength address type n = 12 + addressLength address + addedLength type n
 
--- the headers of a packet: the factor is the header length / 4, rounded down
+-- the headers of a new packet: the factor, HdrLen, is the header length / 4, rounded down
 unfoldable pub newHeaders : AddressHeader → ℕ → ℕ → ℕ → ℕ → ℕ → ScionHeaders
 newHeaders address type n nextHeader payload flow =
     record {
@@ -65,11 +66,12 @@ commonOf h =
       reserved = h .reserved;
     }
 
--- what is written
+-- the bytes of all headers
 unfoldable pub headerBytes : ScionHeaders → List ℕ → List ℕ
 headerBytes h path = commonBytes (commonOf h) ++ (addressBytes (h .address) ++ addedBytes (h .«path_type») path)
 
--- what a destination of this size then holds; 01's order: a number too wide, factor 0, factor above 255, payload above 65,535, another size
+-- what a destination of this size then holds; 01's order: a number too wide, factor 0, factor above 255, payload above 65,535, another
+-- size
 unfoldable pub writeHeaders : ScionHeaders → List ℕ → ℕ → Result EncodeError (List ℕ)
 writeHeaders h path size = do
   require (commonFits (commonOf h)) NumberTooWide
@@ -78,8 +80,3 @@ writeHeaders h path size = do
   require (leb (h .«payload_length») 65535) PayloadTooLarge
   require (eqb size (headersLength (h .address) (h .«path_type») (length path))) InadequateBufferSize
   ok (headerBytes h path)
-
--- factor and payload length fit their fields
-pub record Narrow (h : ScionHeaders) : Type 0 where
-  pub factor : h .«header_length_factor» ≤ 255
-  pub payload : h .«payload_length» ≤ 65535

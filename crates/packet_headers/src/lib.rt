@@ -2,20 +2,15 @@
 use errors::packet_error::EncodeError;
 use errors::packet_error::Encoded;
 use packet_address_header::AddressHeader;
-use packet_address_header::WireAddress;
 use packet_common_header::CommonHeader;
 use packet_common_header::fields_fit;
 use wire_encoding::write::put_slice;
 ghost use mathlib.Core.Path.{_≡_};
-ghost use Prim.Native.Nat.{_+_, _≤_};
+ghost use Prim.Native.Nat.{_+_};
 ghost use lib.Dec.{eqb};
 ghost use lib.ListN.{length};
-ghost use lib.Seq.{sets};
 ghost use Rattle.wire_encoding.specs.Result.{orElse};
 ghost use Rattle.errors.specs.Errors.{encodedOf};
-ghost use Rattle.packet_common_header.specs.CommonHeader.{commonBytes, writeCommon};
-ghost use Rattle.packet_address_header.specs.AddressHeader.{onWire};
-ghost use Rattle.errors.specs.declared.packet_error.Encoded.the-variants.{Done};
 ghost use Rattle.packet_headers.specs.Headers as spec;
 
 // The headers of a packet but for its path, which stands beside them. The host kinds are the hosts' own. Factor and payload
@@ -50,14 +45,6 @@ fn fills(fixed: usize, added: usize, size: usize) -> bool
         return false;
     }
     size - fixed == added
-}
-
-// Writes a common header to the first bytes.
-fn put_common(header: CommonHeader, dst: &mut [u8])
-    requires { ⌜ (encodedOf (writeCommon header 12) ≡ Done) × (12 ≤ length (now dst)) ⌝ }
-    ensures { λ _. ⌜ now (dst .exit) ≡ sets (now (dst .entry)) 0 (commonBytes header) ⌝ }
-{
-    header.encode_to(&mut dst[0..CommonHeader::LENGTH]);
 }
 
 impl ScionHeaders {
@@ -99,30 +86,12 @@ impl ScionHeaders {
         0xFFFF_FFFF_FFFF_FFFF
     }
 
-    // The common header, of a factor below 256 and a payload length below 65,536; `wire` is the address header.
-    fn common(self, wire: WireAddress) -> CommonHeader
-        requires { ⌜ spec.Narrow self × (wire ≡ onWire (self .address)) ⌝ }
-        ensures { λ r. ⌜ r ≡ spec.commonOf self ⌝ }
+    // Writes the headers and the path after them to a destination that they fill, or leaves it as it is.
+    pub fn encode_to(self, path: &[u8], dst: &mut [u8]) -> Encoded
+        ensures { λ r. ⌜ r ≡ encodedOf (spec.writeHeaders self (now (path .entry)) (length (now (dst .entry)))) ⌝ }
+        ensures { λ _. ⌜ now (dst .exit) ≡ orElse (spec.writeHeaders self (now (path .entry)) (length (now (dst .entry)))) (now (dst .entry)) ⌝ }
     {
-        CommonHeader {
-            version: self.version,
-            traffic_class: self.traffic_class,
-            flow_id: self.flow_id,
-            next_header: self.next_header,
-            header_length_factor: self.header_length_factor as u8,
-            payload_length: self.payload_length as u16,
-            path_type: self.path_type,
-            destination_kind: wire.destination.kind,
-            source_kind: wire.source.kind,
-            reserved: self.reserved,
-        }
-    }
-
-    // Whether the headers can be written with the path to `size` bytes; `wire` is the address header.
-    fn check(self, wire: WireAddress, path: &[u8], size: usize) -> Encoded
-        requires { ⌜ wire ≡ onWire (self .address) ⌝ }
-        ensures { λ r. ⌜ r ≡ encodedOf (spec.writeHeaders self (now (path .entry)) size) ⌝ }
-    {
+        let wire = self.address.on_wire();
         if !fields_fit(
             self.version,
             self.flow_id,
@@ -142,37 +111,24 @@ impl ScionHeaders {
         }
         let fixed = CommonHeader::LENGTH + wire.encoded_length();
         let added = path_length(self.path_type, path.len());
-        if fills(fixed, added, size) {
-            return Encoded::Done;
+        if !fills(fixed, added, dst.len()) {
+            return Encoded::Refused(EncodeError::InadequateBufferSize);
         }
-        Encoded::Refused(EncodeError::InadequateBufferSize)
-    }
-
-    // Writes the headers and the path after them, which fill the destination; `wire` is the address header.
-    fn put(self, wire: WireAddress, path: &[u8], dst: &mut [u8])
-        requires { ⌜ (encodedOf (spec.writeHeaders self (now path) (length (now dst))) ≡ Done) × (wire ≡ onWire (self .address)) ⌝ }
-        ensures { λ _. ⌜ now (dst .exit) ≡ spec.headerBytes self (now (path .entry)) ⌝ }
-    {
-        let common = self.common(wire);
-        let fixed = CommonHeader::LENGTH + wire.encoded_length();
-        let added = path_length(self.path_type, path.len());
+        let common = CommonHeader {
+            version: self.version,
+            traffic_class: self.traffic_class,
+            flow_id: self.flow_id,
+            next_header: self.next_header,
+            header_length_factor: self.header_length_factor as u8,
+            payload_length: self.payload_length as u16,
+            path_type: self.path_type,
+            destination_kind: wire.destination.kind,
+            source_kind: wire.source.kind,
+            reserved: self.reserved,
+        };
         wire.put(dst, CommonHeader::LENGTH);
-        put_common(common, dst);
+        common.encode_to(&mut dst[0..CommonHeader::LENGTH]);
         put_slice(dst, fixed, &path[0..added]);
-    }
-
-    // Writes the headers and the path to `dst`, or leaves it as it is.
-    pub fn encode_to(self, path: &[u8], dst: &mut [u8]) -> Encoded
-        ensures { λ r. ⌜ r ≡ encodedOf (spec.writeHeaders self (now (path .entry)) (length (now (dst .entry)))) ⌝ }
-        ensures { λ _. ⌜ now (dst .exit) ≡ orElse (spec.writeHeaders self (now (path .entry)) (length (now (dst .entry)))) (now (dst .entry)) ⌝ }
-    {
-        let wire = self.address.on_wire();
-        match self.check(wire, path, dst.len()) {
-            Encoded::Done => {
-                self.put(wire, path, dst);
-                Encoded::Done
-            }
-            Encoded::Refused(error) => Encoded::Refused(error),
-        }
+        Encoded::Done
     }
 }

@@ -1,30 +1,28 @@
 -- What is known of a path that was read, and where the views of one lie.
 -- Assumes nothing.
-use Prim.Native.Nat.{ℕ, _+_, _*_, _≤_, _<_}
+use Prim.Native.Nat.{ℕ, _+_, _*_, _≤_}
 use mathlib.Core.Path.{_≡_, refl, sym, ap, _∙_}
 use mathlib.Core.Bool.{Bool, true, false, cond}
 use mathlib.Core.List.{List}
 use native.Mathlib.Omega.{arith}
 use lib.Dec.{leb, ltb, eqb}
-use lib.ListN.{length}
-use borrow.Author.Tests.{leb-true, ltb-true, eqb-true, lt-ltb, le-leb}
+use lib.ListN.{length, getD, set}
+use borrow.Author.Tests.{leb-true, ltb-true, eqb-true, le-leb}
 use Rattle.wire_encoding.specs.Result.{Result, ok, refused, orElse, refusing}
 use Rattle.wire_encoding.specs.BigEndian.{bigEndian, room}
-use Rattle.wire_encoding.proofs.Result.{not-both, same-value, held, stepped, refusing-ok, either}
+use Rattle.wire_encoding.specs.Bits.{withBit}
+use Rattle.wire_encoding.proofs.Result.{same-value, held, stepped, refusing-ok, either, refused-alike}
 use Rattle.path_meta_header.specs.MetaHeader.{
   metaOf,
   infoFieldsCount,
   hopFieldsCount,
   pathLength,
-  lengthsValid,
-  hopValid,
-  infoValid,
-  checked,
   readMeta,
   infoFieldOffset,
   hopFieldOffset,
 }
 use Rattle.path_meta_header.specs.declared.PathMetaHeader.{PathMetaHeader}
+use Rattle.path_meta_header.proofs.MetaHeader.{Sound, checked-sound, sound-checked}
 use Rattle.errors.specs.declared.packet_error.Decoded.the-variants as decoded
 use Rattle.errors.specs.declared.packet_error.DecodeError.{DecodeError}
 use Rattle.errors.specs.declared.path_error.Answer.the-variants as answer
@@ -37,8 +35,23 @@ use Rattle.path.specs.declared.dataplane.PathAnswer.{PathAnswer}
 use Rattle.path.specs.declared.dataplane.DataplaneRead.{DataplaneRead}
 use Rattle.path.specs.declared.dataplane.Located.{Located}
 use Rattle.path.specs.Standard.{readPath, pathUnder, pathRead}
-use Rattle.path.specs.Segment.{Fields, nowhere, segmentOfPath}
-use Rattle.path.specs.Dataplane.{Extent, headless, readStandard, readDataplane, dataplaneRead, standard, pathAnswer, infoFieldIn, hopFieldIn, segmentIn, located, segment}
+use Rattle.path.specs.Segment.{Fields, nowhere}
+use Rattle.path.specs.Dataplane.{
+  Extent,
+  headless,
+  readStandard,
+  readDataplane,
+  dataplaneRead,
+  standard,
+  metaHeaderOf,
+  pathAnswer,
+  infoFieldIn,
+  hopFieldIn,
+  segmentIn,
+  located,
+  segment,
+  alerted,
+}
 use Rattle.path.proofs.Segment as segments
 
 -- WHAT AN ANSWER SAYS
@@ -92,25 +105,11 @@ module _ (path : Result PathError PathMetaHeader) (r : Result PathError Part) {c
 
 -- A PATH THAT WAS READ
 
--- a meta header that passes its rules
-pub record Sound (m : PathMetaHeader) : Type 0 where
-  pub lengths : lengthsValid m ≡ true
-  pub info : m .«current_info_field» < infoFieldsCount m
-  pub hop : hopValid m ≡ true
-
 -- the bytes hold a whole path under this meta header
 pub record Readable (bytes : List ℕ) (m : PathMetaHeader) : Type 0 where
   pub sound-meta : Sound m
   pub whole : pathLength m ≤ length bytes
   pub word : m ≡ metaOf (bigEndian 4 bytes 0)
-
-sound : (m : PathMetaHeader) {read : PathMetaHeader} → checked m ≡ ok read → Sound m × (m ≡ read)
-unfolding checked infoValid
-sound m h =
-    let lengths = held (lengthsValid m) _ _ h in
-    let info = held (ltb (m .«current_info_field») (infoFieldsCount m)) _ _ (lengths .1) in
-    let hop = held (hopValid m) _ _ (info .1) in
-    (record { lengths = lengths .0; info = ltb-true _ _ (info .0); hop = hop .0 }, cc)
 
 module _ (bytes : List ℕ) {m : PathMetaHeader} where
   -- a path that is read is readable
@@ -118,7 +117,7 @@ module _ (bytes : List ℕ) {m : PathMetaHeader} where
   unfolding readPath readMeta
   readable h =
       let header = stepped (readMeta bytes) _ h in
-      let checks = sound _ (held (room bytes 0 4) _ _ (header .first) .1) in
+      let checks = checked-sound _ (held (room bytes 0 4) _ _ (header .first) .1) in
       let fields = held (leb (pathLength (header .value)) (length bytes)) _ _ (header .then) in
       let same : header .value ≡ m = cc in
       rw (← same) (record {
@@ -146,19 +145,19 @@ module _ (bytes : List ℕ) (m : PathMetaHeader) (r : Readable bytes m) where
   four = omega (arith, r .whole)
 
   pub path-read : readPath bytes ≡ ok m
-  unfolding readPath readMeta room checked infoValid
-  path-read =
-      rw (le-leb 4 (length bytes) four, ← r .word, r .sound-meta .lengths, lt-ltb _ _ (r .sound-meta .info), r .sound-meta .hop, le-leb _ _ (r .whole))
+  unfolding readPath readMeta room
+  path-read = rw (le-leb 4 (length bytes) four, ← r .word, sound-checked m (r .sound-meta), le-leb _ _ (r .whole))
 
   pub standard-read : standard 1 bytes ≡ ok m
   unfolding standard readDataplane
   standard-read = rw path-read
 
--- WHERE THE PARTS LIE
+  -- and its header is the one that reading hands back
+  pub header-read : metaHeaderOf bytes ≡ m
+  unfolding metaHeaderOf
+  header-read = rw standard-read
 
-stands : (r : Result PathError PathMetaHeader) {m : PathMetaHeader} → r ≡ ok m → r ≡ ok (orElse r (metaOf 0))
-stands (ok m) h = refl
-stands (refused error) h = absurd (not-both h)
+-- WHERE THE PARTS LIE
 
 module _ (bytes : List ℕ) where
   -- a path is at most all the bytes
@@ -171,7 +170,8 @@ module _ (bytes : List ℕ) where
       go true o = omega arith
       go false true =
           either (λ (x : Extent). x .length ≤ length bytes) (readStandard bytes) (headless 0) (omega arith)
-          (λ x h. let m = stepped (readPath bytes) _ h in omega (arith, readable bytes (m .first) .whole, ap (λ (r : Extent). r .length) (same-value (m .then))))
+          (λ x h. let m = stepped (readPath bytes) _ h in
+          omega (arith, readable bytes (m .first) .whole, ap (λ (r : Extent). r .length) (same-value (m .then))))
       go false false = omega arith
 
 -- a view lies among n bytes, and is of its size
@@ -191,7 +191,12 @@ module _ (bytes : List ℕ) (type : ℕ) where
       let found = stepped (infoFieldOffset (read .value) k) _ (read .then) in
       let there = held (ltb k (infoFieldsCount (read .value))) _ _ (found .first) in
       let same : _≡_ {A = Part} (record { start = 4 + k * 8; len = 8 }) v = cc in
-      rw (← same) (record { inside = omega (arith, ltb-true k (infoFieldsCount (read .value)) (there .0), standard-readable bytes type (read .first) .whole); sized = refl })
+      rw (← same)
+      (record {
+        inside =
+            omega (arith, ltb-true k (infoFieldsCount (read .value)) (there .0), standard-readable bytes type (read .first) .whole);
+        sized = refl;
+      })
 
   pub hop-view : (j : ℕ) (v : Part) → hopFieldIn type bytes j ≡ ok v → Inside 12 (length bytes) v
   unfolding hopFieldIn hopFieldOffset pathLength
@@ -200,15 +205,40 @@ module _ (bytes : List ℕ) (type : ℕ) where
       let found = stepped (hopFieldOffset (read .value) j) _ (read .then) in
       let there = held (ltb j (hopFieldsCount (read .value))) _ _ (found .first) in
       let same : _≡_ {A = Part} (record { start = 4 + infoFieldsCount (read .value) * 8 + j * 12; len = 12 }) v = cc in
-      rw (← same) (record { inside = omega (arith, ltb-true j (hopFieldsCount (read .value)) (there .0), standard-readable bytes type (read .first) .whole); sized = refl })
+      rw (← same)
+      (record {
+        inside =
+            omega (arith, ltb-true j (hopFieldsCount (read .value)) (there .0), standard-readable bytes type (read .first) .whole);
+        sized = refl;
+      })
 
-  -- a field that is there is one of a path that was read
-  pub hop-read : (j : ℕ) {v : Part} → hopFieldIn type bytes j ≡ ok v → standard type bytes ≡ ok (orElse (standard type bytes) (metaOf 0))
+  -- a hop field that is there: the header that was read, and where the field starts under it
+  pub record HopFound (j : ℕ) (v : Part) : Type 0 where
+    pub header : PathMetaHeader
+    pub read : standard type bytes ≡ ok header
+    pub offset : hopFieldOffset header j ≡ ok (v .start)
+
+  pub hop-found : (j : ℕ) {v : Part} → hopFieldIn type bytes j ≡ ok v → HopFound j v
   unfolding hopFieldIn
-  hop-read j h = stands (standard type bytes) (stepped (standard type bytes) _ h .first)
+  hop-found j h =
+      let read = stepped (standard type bytes) _ h in
+      let found = stepped (hopFieldOffset (read .value) j) _ (read .then) in
+      record {
+        header = read .value;
+        read = read .first;
+        offset = found .first ∙ ap ok (ap (λ (p : Part). p .start) (same-value (found .then)));
+      }
+
+  -- and one that isn't: a flag of it can't be set
+  pub alerted-refused : (bit : ℕ) (on : Bool) (j : ℕ) {error : PathError} → hopFieldIn type bytes j ≡ refused error
+      → alerted bit on type bytes j ≡ refused error
+  unfolding hopFieldIn alerted
+  alerted-refused bit on j h =
+      refused-alike (λ m. hopFieldOffset m j) (λ m start. record { start = start; len = 12 })
+      (λ m flags. record { header = m; bytes = set bytes flags (withBit bit on (getD bytes flags 0)) }) (standard type bytes) h
 
   segment-view : (k : ℕ) (v : Fields) → segmentIn type bytes k ≡ ok v → Among bytes (v .hops)
-  unfolding segmentIn segmentOfPath
+  unfolding segmentIn
   segment-view k v h =
       let read = stepped (standard type bytes) _ h in
       let m = read .value in

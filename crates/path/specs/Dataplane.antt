@@ -1,19 +1,21 @@
 -- The calls on a path of any type: a type byte beside the bytes. Reading comes first, then each call's own order.
 use Prim.Native.Nat.{ℕ}
-use mathlib.Core.Bool.{cond}
+use mathlib.Core.Bool.{Bool, cond}
 use mathlib.Core.List.{List}
-use lib.ListN.{length}
-use lib.Dec.{eqb}
-use Rattle.wire_encoding.specs.Result.{Result, ok, require, andThen, _>>_, _>>=_, orElse, refusing, told}
+use lib.ListN.{length, getD, set}
+use lib.Dec.{ltb, eqb}
+use Rattle.wire_encoding.specs.Result.{Result, ok, require, andThen, _>>_, _>>=_, mapped, orElse, refusing}
 use Rattle.wire_encoding.specs.BigEndian.{part}
-use Rattle.path_meta_header.specs.MetaHeader.{metaOf, pathLength, infoFieldOffset, hopFieldOffset}
+use Rattle.wire_encoding.specs.Bits.{withBit}
+use Rattle.path_meta_header.specs.MetaHeader.{metaOf, infoFieldsCount, pathLength, infoFieldOffset, hopFieldOffset}
 use Rattle.path_meta_header.specs.declared.PathMetaHeader.{PathMetaHeader}
+use Rattle.path_fields.specs.Fields.{infoFieldLength, hopFieldLength}
 use Rattle.errors.specs.Errors.{decodedOf, answerOf}
 use Rattle.errors.specs.declared.packet_error.DecodeError.{DecodeError}
 use Rattle.errors.specs.declared.path_error.PathError.{PathError}
 use Rattle.errors.specs.declared.path_error.PathError.the-variants.{Decode, NoSuchField}
 use Rattle.path.specs.Standard.{pathUnder, readPath}
-use Rattle.path.specs.Segment.{Fields, segmentOfPath, nowhere}
+use Rattle.path.specs.Segment.{Fields, segmentAt, nowhere}
 use Rattle.path.specs.declared.standard.StandardPath.{StandardPath}
 use Rattle.path.specs.declared.standard.Part.{Part}
 use Rattle.path.specs.declared.standard.segment.Segment.{Segment}
@@ -54,6 +56,10 @@ standard type bytes = do
   require (eqb type 1) NoSuchField
   ok (read .header)
 
+-- the header that reading a standard path hands back
+unfoldable pub metaHeaderOf : List ℕ → PathMetaHeader
+metaHeaderOf bytes = orElse (standard 1 bytes) (metaOf 0)
+
 -- what a call hands back: the record of the path as it leaves it, zeros where it is refused
 unfoldable pub pathAnswer : Result PathError PathMetaHeader → PathAnswer
 pathAnswer r = record { answer = answerOf r; path = pathUnder (orElse r (metaOf 0)) }
@@ -64,10 +70,10 @@ pub record Written : Type 0 where
   pub bytes : List ℕ
 
 abbrev pub writtenAnswer : Result PathError Written → PathAnswer
-writtenAnswer r = pathAnswer (andThen r (λ written. ok (written .header)))
+writtenAnswer r = pathAnswer (mapped (λ (w : Written). w .header) r)
 
 abbrev pub contents : Result PathError Written → List ℕ → List ℕ
-contents r lent = told r (λ written. written .bytes) (λ error. lent)
+contents r lent = orElse (mapped (λ (w : Written). w .bytes) r) lent
 
 -- the record of the path beside a value that is found of it: zeros where the value is refused
 abbrev pub beside : {A : Type 0} → Result PathError PathMetaHeader → Result PathError A → StandardPath
@@ -79,18 +85,19 @@ unfoldable pub infoFieldIn : ℕ → List ℕ → ℕ → Result PathError Part
 infoFieldIn type bytes k = do
   m ← standard type bytes
   start ← infoFieldOffset m k
-  ok (record { start = start; len = 8 })
+  ok (record { start = start; len = infoFieldLength })
 
 unfoldable pub hopFieldIn : ℕ → List ℕ → ℕ → Result PathError Part
 hopFieldIn type bytes j = do
   m ← standard type bytes
   start ← hopFieldOffset m j
-  ok (record { start = start; len = 12 })
+  ok (record { start = start; len = hopFieldLength })
 
 unfoldable pub segmentIn : ℕ → List ℕ → ℕ → Result PathError Fields
 segmentIn type bytes k = do
   m ← standard type bytes
-  segmentOfPath m k
+  require (ltb k (infoFieldsCount m)) NoSuchField
+  ok (segmentAt m k)
 
 -- what is handed back of one
 unfoldable pub located : Result PathError PathMetaHeader → Result PathError Part → Located
@@ -104,3 +111,11 @@ segment path r =
 -- the bytes of a part
 abbrev pub partIn : List ℕ → Part → List ℕ
 partIn bytes p = part (p .start) (p .len) bytes
+
+-- ALERT FLAGS of hop field j: bit 1 ingress, bit 0 egress. The one bit changes; 8 where there is no such hop field
+
+unfoldable pub alerted : ℕ → Bool → ℕ → List ℕ → ℕ → Result PathError Written
+alerted bit on type bytes j = do
+  m ← standard type bytes
+  flags ← hopFieldOffset m j
+  ok (record { header = m; bytes = set bytes flags (withBit bit on (getD bytes flags 0)) })

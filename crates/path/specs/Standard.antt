@@ -4,8 +4,11 @@ use Prim.Native.Nat.{ℕ}
 use lib.ListN.{length}
 use lib.Dec.{leb}
 use Rattle.wire_encoding.specs.Result.{Result, ok, require, _>>_, _>>=_, orElse}
-use Rattle.path_meta_header.specs.MetaHeader.{metaOf, pathLength, readMeta}
+use Rattle.path_meta_header.specs.MetaHeader.{metaOf, infoStart, hopStart, pathLength, readMeta}
 use Rattle.path_meta_header.specs.declared.PathMetaHeader.{PathMetaHeader}
+use Rattle.path_fields.specs.Fields.{infoFieldAt, hopFieldAt}
+use Rattle.path_fields.specs.declared.InfoField.{InfoField}
+use Rattle.path_fields.specs.declared.HopField.{HopField}
 use Rattle.errors.specs.Errors.{decodedOf}
 use Rattle.errors.specs.declared.packet_error.DecodeError.{DecodeError}
 use Rattle.errors.specs.declared.packet_error.DecodeError.the-variants.{PacketEmptyOrTruncated}
@@ -18,6 +21,13 @@ readPath bytes = do
   m ← readMeta bytes
   require (leb (pathLength m) (length bytes)) PacketEmptyOrTruncated
   ok m
+
+-- info field k and hop field j of a path's bytes
+abbrev pub infoAt : List ℕ → ℕ → InfoField
+infoAt bytes k = infoFieldAt bytes (infoStart k)
+
+abbrev pub hopAt : List ℕ → PathMetaHeader → ℕ → HopField
+hopAt bytes m j = hopFieldAt bytes (hopStart m j)
 
 -- the record of a path under a header
 abbrev pub pathUnder : PathMetaHeader → StandardPath

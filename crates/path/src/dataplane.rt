@@ -10,9 +10,14 @@ use path_fields::HopField;
 use path_fields::InfoField;
 use path_meta_header::Offset;
 use path_meta_header::PathMetaHeader;
+use wire_encoding::flags::with_bit_0;
+use wire_encoding::flags::with_bit_1;
+use wire_encoding::read::part_of;
 ghost use mathlib.Core.Path.{_≡_};
+ghost use mathlib.Core.Bool.{cond};
 ghost use lib.ListN.{length, take};
 ghost use Rattle.wire_encoding.specs.Result.{ok, refused, andThen};
+ghost use Rattle.wire_encoding.specs.Bits.{withBit};
 ghost use Rattle.path_meta_header.specs.MetaHeader.{offsetFound};
 ghost use Rattle.errors.specs.declared.path_error.Answer.the-variants as answers;
 ghost use Rattle.errors.specs.declared.path_error.PathError.the-variants as errors;
@@ -43,6 +48,16 @@ pub struct DataplanePath {
     pub path_type: u8,
 }
 
+// The flags of a hop field with its ingress or its egress alert flag set or cleared.
+fn with_alert(flags: u8, ingress: bool, enable: bool) -> u8
+    ensures { λ r. ⌜ r ≡ withBit (cond ingress 1 0) enable flags ⌝ }
+{
+    if ingress {
+        return with_bit_1(flags, enable);
+    }
+    with_bit_0(flags, enable)
+}
+
 impl DataplaneRead {
     // A path that needs no reading: `length` bytes of it.
     fn unread(length: usize) -> DataplaneRead
@@ -64,25 +79,6 @@ impl DataplaneRead {
             answer: Decoded::Refused(error),
             path,
             length: 0,
-        }
-    }
-
-    // A standard path: as many bytes as its header says.
-    fn standard(bytes: &[u8]) -> DataplaneRead
-        ensures { λ r. ⌜ r ≡ spec.dataplaneRead (spec.readStandard (now (bytes .entry))) ⌝ }
-    {
-        let read = StandardPath::decode(bytes);
-        let answer = read.answer;
-        match answer {
-            Decoded::Accepted => {
-                let path = read.path;
-                DataplaneRead {
-                    answer: Decoded::Accepted,
-                    path,
-                    length: path.meta_header.encoded_path_length(),
-                }
-            }
-            Decoded::Refused(error) => DataplaneRead::refused(error),
         }
     }
 }
@@ -141,7 +137,8 @@ impl Located {
 
     // `len` bytes from an offset on.
     fn at(path: StandardPath, offset: Offset, len: usize) -> Located
-        ensures { λ r. ⌜ r ≡ spec.located (ok (path .«meta_header»)) (andThen (offsetFound offset) (λ start. ok (record { start = start; len = len }))) ⌝ }
+        ensures { λ r. ⌜ r
+            ≡ spec.located (ok (path .«meta_header»)) (andThen (offsetFound offset) (λ start. ok (record { start = start; len = len }))) ⌝ }
     {
         match offset {
             Offset::At(start) => Located::accepted(path, start, len),
@@ -170,15 +167,26 @@ impl DataplanePath {
         if self.path_type == DataplanePath::EMPTY {
             return DataplaneRead::unread(0);
         }
-        if self.path_type == DataplanePath::SCION {
-            return DataplaneRead::standard(bytes);
+        if self.path_type != DataplanePath::SCION {
+            return DataplaneRead::unread(bytes.len());
         }
-        DataplaneRead::unread(bytes.len())
+        let read = StandardPath::decode(bytes);
+        let answer = read.answer;
+        if let Decoded::Refused(error) = answer {
+            return DataplaneRead::refused(error);
+        }
+        let path = read.path;
+        DataplaneRead {
+            answer: Decoded::Accepted,
+            path,
+            length: path.meta_header.encoded_path_length(),
+        }
     }
 
     // The path's own bytes; none where it is refused.
     pub fn raw(self, bytes: &[u8]) -> &[u8]
-        ensures { λ r. ⌜ now r ≡ take (spec.dataplaneRead (spec.readDataplane (self .«path_type») (now (bytes .entry))) .length) (now (bytes .entry)) ⌝ }
+        ensures { λ r. ⌜ now r
+            ≡ take (spec.dataplaneRead (spec.readDataplane (self .«path_type») (now (bytes .entry))) .length) (now (bytes .entry)) ⌝ }
     {
         let length = self.decode(bytes).length;
         &bytes[..length]
@@ -190,88 +198,163 @@ impl DataplanePath {
     {
         let read = self.decode(bytes);
         let answer = read.answer;
-        match answer {
-            Decoded::Accepted => {
-                if self.path_type == DataplanePath::SCION {
-                    return PathAnswer::accepted(read.path);
-                }
-                PathAnswer::refused(PathError::NoSuchField)
-            }
-            Decoded::Refused(error) => PathAnswer::not_read(error),
+        if let Decoded::Refused(error) = answer {
+            return PathAnswer::not_read(error);
         }
+        if self.path_type != DataplanePath::SCION {
+            return PathAnswer::refused(PathError::NoSuchField);
+        }
+        PathAnswer::accepted(read.path)
     }
 
     // Where info field `index` lies.
     pub fn locate_info_field(self, bytes: &[u8], index: usize) -> Located
-        ensures { λ r. ⌜ r ≡ spec.located (spec.standard (self .«path_type») (now (bytes .entry))) (spec.infoFieldIn (self .«path_type») (now (bytes .entry)) index) ⌝ }
+        ensures { λ r. ⌜ r
+            ≡ spec.located (spec.standard (self .«path_type») (now (bytes .entry)))
+            (spec.infoFieldIn (self .«path_type») (now (bytes .entry)) index) ⌝ }
     {
         let read = self.standard(bytes);
         let answer = read.answer;
-        match answer {
-            Answer::Accepted => Located::at(
-                read.path,
-                read.path.meta_header.info_field_offset(index),
-                InfoField::LENGTH,
-            ),
-            Answer::Refused(error) => Located::refused(error),
+        if let Answer::Refused(error) = answer {
+            return Located::refused(error);
         }
+        let path = read.path;
+        Located::at(
+            path,
+            path.meta_header.info_field_offset(index),
+            InfoField::LENGTH,
+        )
     }
 
     // Where hop field `index` lies.
     pub fn locate_hop_field(self, bytes: &[u8], index: usize) -> Located
-        ensures { λ r. ⌜ r ≡ spec.located (spec.standard (self .«path_type») (now (bytes .entry))) (spec.hopFieldIn (self .«path_type») (now (bytes .entry)) index) ⌝ }
+        ensures { λ r. ⌜ r
+            ≡ spec.located (spec.standard (self .«path_type») (now (bytes .entry)))
+            (spec.hopFieldIn (self .«path_type») (now (bytes .entry)) index) ⌝ }
     {
         let read = self.standard(bytes);
         let answer = read.answer;
-        match answer {
-            Answer::Accepted => Located::at(
-                read.path,
-                read.path.meta_header.hop_field_offset(index),
-                HopField::LENGTH,
-            ),
-            Answer::Refused(error) => Located::refused(error),
+        if let Answer::Refused(error) = answer {
+            return Located::refused(error);
         }
+        let path = read.path;
+        Located::at(
+            path,
+            path.meta_header.hop_field_offset(index),
+            HopField::LENGTH,
+        )
     }
 
     // Info field `index`, as a part of the path's bytes; empty where it is refused.
     pub fn info_field(self, bytes: &[u8], index: usize) -> &[u8]
-        ensures { λ r. ⌜ now r ≡ spec.partIn (now (bytes .entry)) (spec.located (spec.standard (self .«path_type») (now (bytes .entry))) (spec.infoFieldIn (self .«path_type») (now (bytes .entry)) index) .part) ⌝ }
+        ensures { λ r. ⌜ now r
+            ≡ spec.partIn (now (bytes .entry))
+            (spec.located (spec.standard (self .«path_type») (now (bytes .entry)))
+            (spec.infoFieldIn (self .«path_type») (now (bytes .entry)) index)
+            .part) ⌝ }
     {
         let part = self.locate_info_field(bytes, index).part;
-        let start = part.start;
-        let end = start + part.len;
-        &bytes[start..end]
+        part_of(bytes, part.start, part.len)
     }
 
     // Hop field `index`, as a part of the path's bytes; empty where it is refused.
     pub fn hop_field(self, bytes: &[u8], index: usize) -> &[u8]
-        ensures { λ r. ⌜ now r ≡ spec.partIn (now (bytes .entry)) (spec.located (spec.standard (self .«path_type») (now (bytes .entry))) (spec.hopFieldIn (self .«path_type») (now (bytes .entry)) index) .part) ⌝ }
+        ensures { λ r. ⌜ now r
+            ≡ spec.partIn (now (bytes .entry))
+            (spec.located (spec.standard (self .«path_type») (now (bytes .entry)))
+            (spec.hopFieldIn (self .«path_type») (now (bytes .entry)) index)
+            .part) ⌝ }
     {
         let part = self.locate_hop_field(bytes, index).part;
-        let start = part.start;
-        let end = start + part.len;
-        &bytes[start..end]
+        part_of(bytes, part.start, part.len)
     }
 
     // Segment `index`: where its info field and its hop fields lie.
     pub fn segment(self, bytes: &[u8], index: usize) -> Segment
-        ensures { λ r. ⌜ r ≡ spec.segment (spec.standard (self .«path_type») (now (bytes .entry))) (spec.segmentIn (self .«path_type») (now (bytes .entry)) index) ⌝ }
+        ensures { λ r. ⌜ r
+            ≡ spec.segment (spec.standard (self .«path_type») (now (bytes .entry)))
+            (spec.segmentIn (self .«path_type») (now (bytes .entry)) index) ⌝ }
     {
         let read = self.standard(bytes);
         let answer = read.answer;
-        match answer {
-            Answer::Accepted => Segment::of(read.path, index),
-            Answer::Refused(error) => Segment::refused(error),
+        if let Answer::Refused(error) = answer {
+            return Segment::refused(error);
+        }
+        let path = read.path;
+        let meta_header = path.meta_header;
+        if meta_header.info_fields_count() <= index {
+            return Segment::refused(PathError::NoSuchField);
+        }
+        let info_field = Part {
+            start: PathMetaHeader::LENGTH + index * InfoField::LENGTH,
+            len: InfoField::LENGTH,
+        };
+        let hop_fields = Part {
+            start: meta_header.hop_fields_start()
+                + meta_header.first_hop_field(index) * HopField::LENGTH,
+            len: meta_header.segment_length(index) * HopField::LENGTH,
+        };
+        Segment {
+            answer: Answer::Accepted,
+            path,
+            info_field,
+            hop_fields,
         }
     }
 
     // The hop fields of segment `index`, as a part of the path's bytes; empty where it is refused.
     pub fn segment_hop_fields(self, bytes: &[u8], index: usize) -> &[u8]
-        ensures { λ r. ⌜ now r ≡ spec.partIn (now (bytes .entry)) (spec.segment (spec.standard (self .«path_type») (now (bytes .entry))) (spec.segmentIn (self .«path_type») (now (bytes .entry)) index) .«hop_fields») ⌝ }
+        ensures { λ r. ⌜ now r
+            ≡ spec.partIn (now (bytes .entry))
+            (spec.segment (spec.standard (self .«path_type») (now (bytes .entry))) (spec.segmentIn (self .«path_type») (now (bytes .entry)) index)
+            .«hop_fields») ⌝ }
     {
         let part = self.segment(bytes, index).hop_fields;
-        let start = part.start;
-        let end = start + part.len;
-        &bytes[start..end]
+        part_of(bytes, part.start, part.len)
+    }
+
+    // Sets or clears an alert flag of hop field `index`.
+    fn set_alert(self, bytes: &mut [u8], index: usize, ingress: bool, enable: bool) -> PathAnswer
+        ensures { λ r. ⌜ r ≡ spec.writtenAnswer (spec.alerted (cond ingress 1 0) enable (self .«path_type») (now (bytes .entry)) index) ⌝ }
+        ensures { λ _. ⌜ now (bytes .exit)
+            ≡ spec.contents (spec.alerted (cond ingress 1 0) enable (self .«path_type») (now (bytes .entry)) index) (now (bytes .entry)) ⌝ }
+    {
+        let located = self.locate_hop_field(bytes, index);
+        let answer = located.answer;
+        if let Answer::Refused(error) = answer {
+            return PathAnswer::refused(error);
+        }
+        let start = located.part.start;
+        let flags = bytes[start];
+        bytes[start] = with_alert(flags, ingress, enable);
+        PathAnswer::accepted(located.path)
+    }
+
+    // Sets or clears the ingress alert flag of hop field `index`.
+    pub fn set_cons_ingress_router_alert(
+        self,
+        bytes: &mut [u8],
+        index: usize,
+        enable: bool,
+    ) -> PathAnswer
+        ensures { λ r. ⌜ r ≡ spec.writtenAnswer (spec.alerted 1 enable (self .«path_type») (now (bytes .entry)) index) ⌝ }
+        ensures { λ _. ⌜ now (bytes .exit)
+            ≡ spec.contents (spec.alerted 1 enable (self .«path_type») (now (bytes .entry)) index) (now (bytes .entry)) ⌝ }
+    {
+        self.set_alert(bytes, index, true, enable)
+    }
+
+    // Sets or clears the egress alert flag of hop field `index`.
+    pub fn set_cons_egress_router_alert(
+        self,
+        bytes: &mut [u8],
+        index: usize,
+        enable: bool,
+    ) -> PathAnswer
+        ensures { λ r. ⌜ r ≡ spec.writtenAnswer (spec.alerted 0 enable (self .«path_type») (now (bytes .entry)) index) ⌝ }
+        ensures { λ _. ⌜ now (bytes .exit)
+            ≡ spec.contents (spec.alerted 0 enable (self .«path_type») (now (bytes .entry)) index) (now (bytes .entry)) ⌝ }
+    {
+        self.set_alert(bytes, index, false, enable)
     }
 }

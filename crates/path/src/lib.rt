@@ -1,3 +1,3 @@
-// SCION paths as bytes: reading, views, expiry, interfaces, alert flags, copying.
+// SCION paths as bytes: reading, views, alert flags.
 pub mod dataplane;
 pub mod standard;

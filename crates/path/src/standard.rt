@@ -11,6 +11,7 @@ ghost use Rattle.path.specs.Standard as spec;
 pub mod segment;
 
 // The record of a path that was read. Its bytes stay with the caller.
+#[repr(C)]
 pub struct StandardPath {
     pub meta_header: PathMetaHeader,
 }
@@ -22,6 +23,7 @@ pub struct PathRead {
 }
 
 // A part of the caller's bytes.
+#[repr(C)]
 pub struct Part {
     pub start: usize,
     pub len: usize,
@@ -42,15 +44,14 @@ impl StandardPath {
     {
         let read = PathMetaHeader::decode(bytes);
         let answer = read.answer;
-        match answer {
-            Decoded::Accepted => {
-                if read.meta_header.encoded_path_length() <= bytes.len() {
-                    return PathRead::accepted(read.meta_header);
-                }
-                PathRead::refused(DecodeError::PacketEmptyOrTruncated)
-            }
-            Decoded::Refused(error) => PathRead::refused(error),
+        if let Decoded::Refused(error) = answer {
+            return PathRead::refused(error);
         }
+        let meta_header = read.meta_header;
+        if bytes.len() < meta_header.encoded_path_length() {
+            return PathRead::refused(DecodeError::PacketEmptyOrTruncated);
+        }
+        PathRead::accepted(meta_header)
     }
 }
 

@@ -9,7 +9,7 @@ use lib.ListN.{length, getD}
 use Rattle.wire_encoding.specs.Result.{Result, ok, refused, orElse}
 use Rattle.wire_encoding.specs.BigEndian.{bigEndian, part}
 use Rattle.wire_encoding.proofs.Lists.{length-part, getD-part}
-use Rattle.path_meta_header.specs.MetaHeader.{metaOf, infoFieldsCount, firstHopField, segmentLengthOf, pathLength, infoStart, hopStart}
+use Rattle.path_meta_header.specs.MetaHeader.{metaOf, infoFieldsCount, firstHopField, segmentLength, pathLength, infoStart, hopStart}
 use Rattle.path_fields.specs.Fields.{infoFieldAt, hopFieldAt, expiryOffset, expiryTime}
 use Rattle.path_meta_header.specs.declared.PathMetaHeader.{PathMetaHeader}
 use Rattle.path.specs.Standard.{pathUnder}
@@ -44,16 +44,16 @@ least-expiry time e (suc last) =
 
 -- the bytes of the hop fields of segment k
 abbrev pub hopRun : List ℕ → PathMetaHeader → ℕ → List ℕ
-hopRun bytes m k = part (hopStart m (firstHopField m k)) (segmentLengthOf m k * 12) bytes
+hopRun bytes m k = part (hopStart m (firstHopField m k)) (segmentLength m k * 12) bytes
 
 -- a segment that is there, in bytes that hold the path
 module _ (bytes : List ℕ) (m : PathMetaHeader) (k : ℕ) (there : k < infoFieldsCount m) (whole : pathLength m ≤ length bytes) where
   -- expiry byte j of the run is that of the segment's hop field j
-  byte-in-run : (j : ℕ) → j < segmentLengthOf m k → expTimeAt (hopRun bytes m k) 0 j ≡ getD bytes (hopStart m (firstHopField m k + j) + 1) 0
+  byte-in-run : (j : ℕ) → j < segmentLength m k → expTimeAt (hopRun bytes m k) 0 j ≡ getD bytes (hopStart m (firstHopField m k + j) + 1) 0
   byte-in-run j h =
       let start = hopStart m (firstHopField m k) in
       let e : start + (0 + j * 12 + 1) ≡ hopStart m (firstHopField m k + j) + 1 = omega arith in
-      getD-part start (segmentLengthOf m k * 12) bytes (0 + j * 12 + 1) (omega arith)
+      getD-part start (segmentLength m k * 12) bytes (0 + j * 12 + 1) (omega arith)
       ∙ ap (λ (i : ℕ). getD bytes i 0) e
 
   -- the segment's expiry, by the least expiry byte of its run
@@ -62,11 +62,11 @@ module _ (bytes : List ℕ) (m : PathMetaHeader) (k : ℕ) (there : k < infoFiel
   unfolding segmentExpiry hopExpiry infoFieldAt hopFieldAt
   expiry-by-run =
       let time = bigEndian 4 bytes (infoStart k + 4) in
-      let size : length (hopRun bytes m k) ≡ segmentLengthOf m k * 12 = length-part _ _ bytes (inside bytes m k there whole .hops) in
-      let last : length (hopRun bytes m k) / 12 - 1 ≡ segmentLengthOf m k - 1 = omega arith in
+      let size : length (hopRun bytes m k) ≡ segmentLength m k * 12 = length-part _ _ bytes (inside bytes m k there whole .hops) in
+      let last : length (hopRun bytes m k) / 12 - 1 ≡ segmentLength m k - 1 = omega arith in
       ap (λ (n : ℕ). expiryTime time (least (expTimeAt (hopRun bytes m k) 0) n)) last
-      ∙ sym (least-expiry time (expTimeAt (hopRun bytes m k) 0) (segmentLengthOf m k - 1))
-      ∙ least-same _ _ (segmentLengthOf m k - 1) (λ j h. ap (expiryTime time) (byte-in-run j (omega (arith, inside bytes m k there whole .one))))
+      ∙ sym (least-expiry time (expTimeAt (hopRun bytes m k) 0) (segmentLength m k - 1))
+      ∙ least-same _ _ (segmentLength m k - 1) (λ j h. ap (expiryTime time) (byte-in-run j (omega (arith, inside bytes m k there whole .one))))
 
 -- what a caller of `expiry_time` learns
 module _ (path : Result PathError PathMetaHeader) (r : Result PathError ℕ) {call : Expiry} (is : call ≡ expiryFound path r) where

@@ -5,7 +5,7 @@ use lib.ListN.{getD}
 use lib.IntN.{ℤ, pos, subℕ}
 use lib.Dec.{ltb, leb}
 use Rattle.wire_encoding.specs.Result.{Result, ok, require, _>>_, _>>=_, orElse}
-use Rattle.path_meta_header.specs.MetaHeader.{infoFieldsCount, firstHopField, segmentLengthOf, infoStart, hopStart}
+use Rattle.path_meta_header.specs.MetaHeader.{infoFieldsCount, firstHopField, segmentLength, infoStart, hopStart}
 use Rattle.path_meta_header.specs.declared.PathMetaHeader.{PathMetaHeader}
 use Rattle.path_fields.specs.Fields.{infoFieldAt, hopFieldAt, expiryTime}
 use Rattle.errors.specs.Errors.{answerOf}
@@ -31,7 +31,7 @@ hopExpiry bytes m k j =
 
 -- of segment k: the least of its hop fields'
 unfoldable pub segmentExpiry : List ℕ → PathMetaHeader → ℕ → ℕ
-segmentExpiry bytes m k = least (hopExpiry bytes m k) (segmentLengthOf m k - 1)
+segmentExpiry bytes m k = least (hopExpiry bytes m k) (segmentLength m k - 1)
 
 -- of the path: the least of its segments'
 unfoldable pub pathExpiry : List ℕ → PathMetaHeader → ℕ

@@ -121,9 +121,7 @@ fn segment_expiry(bytes: &[u8], meta_header: PathMetaHeader, k: usize) -> u64
     requires { ⌜ (k < meta.infoFieldsCount «meta_header») × (meta.pathLength «meta_header» ≤ length (now bytes)) ⌝ }
     ensures { λ r. ⌜ (r ≡ spec.segmentExpiry (now (bytes .entry)) «meta_header» k) × (r ≤ 4295053695000) ⌝ }
 {
-    let first = PathMetaHeader::LENGTH
-        + meta_header.info_fields_count() * InfoField::LENGTH
-        + meta_header.first_hop_field(k) * HopField::LENGTH;
+    let first = meta_header.hop_fields_start() + meta_header.first_hop_field(k) * HopField::LENGTH;
     let end = first + meta_header.segment_length(k) * HopField::LENGTH;
     let timestamp = timestamp_at(bytes, PathMetaHeader::LENGTH + k * InfoField::LENGTH);
     expiry(timestamp, least_exp_time(&bytes[first..end]))
@@ -154,52 +152,49 @@ fn left(expiry: u64, at: u64) -> i64
 }
 
 // The expiry of segment `index`: the least of its hop fields'.
-pub fn segment_expiry_time(dataplane: DataplanePath, bytes: &[u8], index: usize) -> Expiry
-    ensures { λ r. ⌜ r ≡ spec.expiryFound (standard (dataplane .«path_type») (now (bytes .entry))) (spec.segmentExpiryIn (dataplane .«path_type») (now (bytes .entry)) index) ⌝ }
+pub fn segment_expiry_time(path: DataplanePath, bytes: &[u8], index: usize) -> Expiry
+    ensures { λ r. ⌜ r
+        ≡ spec.expiryFound (standard (path .«path_type») (now (bytes .entry)))
+        (spec.segmentExpiryIn (path .«path_type») (now (bytes .entry)) index) ⌝ }
 {
-    let read = dataplane.standard(bytes);
+    let read = path.standard(bytes);
     let answer = read.answer;
-    match answer {
-        Answer::Accepted => {
-            if index < read.path.meta_header.info_fields_count() {
-                let ms = segment_expiry(bytes, read.path.meta_header, index);
-                return Expiry::accepted(read.path, ms);
-            }
-            Expiry::refused(PathError::NoSuchField)
-        }
-        Answer::Refused(error) => Expiry::refused(error),
+    if let Answer::Refused(error) = answer {
+        return Expiry::refused(error);
     }
+    let meta_header = read.path.meta_header;
+    if meta_header.info_fields_count() <= index {
+        return Expiry::refused(PathError::NoSuchField);
+    }
+    Expiry::accepted(read.path, segment_expiry(bytes, meta_header, index))
 }
 
 // The expiry of the path: the least of its segments'.
-pub fn expiry_time(dataplane: DataplanePath, bytes: &[u8]) -> Expiry
-    ensures { λ r. ⌜ r ≡ spec.expiryFound (standard (dataplane .«path_type») (now (bytes .entry))) (spec.expiryIn (dataplane .«path_type») (now (bytes .entry))) ⌝ }
+pub fn expiry_time(path: DataplanePath, bytes: &[u8]) -> Expiry
+    ensures { λ r. ⌜ r
+        ≡ spec.expiryFound (standard (path .«path_type») (now (bytes .entry))) (spec.expiryIn (path .«path_type») (now (bytes .entry))) ⌝ }
     ensures { λ r. ⌜ r .ms ≤ 4295053695000 ⌝ }
 {
-    let read = dataplane.standard(bytes);
+    let read = path.standard(bytes);
     let answer = read.answer;
-    match answer {
-        Answer::Accepted => {
-            let ms = path_expiry(bytes, read.path.meta_header);
-            Expiry::accepted(read.path, ms)
-        }
-        Answer::Refused(error) => Expiry::refused(error),
+    if let Answer::Refused(error) = answer {
+        return Expiry::refused(error);
     }
+    Expiry::accepted(read.path, path_expiry(bytes, read.path.meta_header))
 }
 
 // The path's expiry less `at`, a time of 0 to 9,000,000,000,000 ms.
-pub fn time_left(dataplane: DataplanePath, bytes: &[u8], at: u64) -> TimeLeft
-    ensures { λ r. ⌜ r ≡ spec.timeLeftFound (standard (dataplane .«path_type») (now (bytes .entry))) (spec.timeLeftIn (dataplane .«path_type») (now (bytes .entry)) at) ⌝ }
+pub fn time_left(path: DataplanePath, bytes: &[u8], at: u64) -> TimeLeft
+    ensures { λ r. ⌜ r
+        ≡ spec.timeLeftFound (standard (path .«path_type») (now (bytes .entry))) (spec.timeLeftIn (path .«path_type») (now (bytes .entry)) at) ⌝ }
 {
-    let expiry = expiry_time(dataplane, bytes);
+    let expiry = expiry_time(path, bytes);
     let answer = expiry.answer;
-    match answer {
-        Answer::Accepted => {
-            if at <= 9000000000000 {
-                return TimeLeft::accepted(expiry.path, left(expiry.ms, at));
-            }
-            TimeLeft::refused(PathError::NumberTooWide)
-        }
-        Answer::Refused(error) => TimeLeft::refused(error),
+    if let Answer::Refused(error) = answer {
+        return TimeLeft::refused(error);
     }
+    if 9000000000000 < at {
+        return TimeLeft::refused(PathError::NumberTooWide);
+    }
+    TimeLeft::accepted(expiry.path, left(expiry.ms, at))
 }

@@ -6,14 +6,23 @@ use lib.ListN.{length, getD, replicate}
 use lib.Dec.{eqb}
 use Rattle.wire_encoding.specs.Bits.{bitOf, withBit}
 use Rattle.wire_encoding.specs.BigEndian.{bigEndian, part}
+use Rattle.wire_encoding.specs.Result.{Result, ok, require, _>>_, orElse}
 use Rattle.path_fields.specs.declared.InfoField.{InfoField}
 use Rattle.path_fields.specs.declared.InfoFieldRead.{InfoFieldRead}
 use Rattle.path_fields.specs.declared.HopField.{HopField}
 use Rattle.path_fields.specs.declared.HopFieldRead.{HopFieldRead}
 use Rattle.path_fields.specs.declared.Interface.{Interface}
 use Rattle.path_fields.specs.declared.Interface.the-variants as interface
-use Rattle.errors.specs.declared.path_error.Answer.the-variants.{Accepted, Refused}
+use Rattle.errors.specs.Errors.{answerOf}
+use Rattle.errors.specs.declared.path_error.PathError.{PathError}
 use Rattle.errors.specs.declared.path_error.PathError.the-variants.{InadequateBufferSize}
+
+-- how many bytes each has
+abbrev pub infoFieldLength : ℕ
+infoFieldLength = 8
+
+abbrev pub hopFieldLength : ℕ
+hopFieldLength = 12
 
 -- the info field at `at`: flags, RSV, Acc (2 bytes), Timestamp (4 bytes, seconds)
 unfoldable pub infoFieldAt : List ℕ → ℕ → InfoField
@@ -29,10 +38,18 @@ unfoldable pub zeroInfoField : InfoField
 zeroInfoField = record { flags = 0; reserved = 0; accumulator = 0; timestamp = 0 }
 
 -- an info field of a part: 9 unless the part has 8 bytes
-unfoldable pub newInfoField : List ℕ → InfoFieldRead
-newInfoField bytes =
-    cond (eqb (length bytes) 8) (record { answer = Accepted; field = infoFieldAt bytes 0 })
-    (record { answer = Refused InadequateBufferSize; field = zeroInfoField })
+unfoldable pub newInfoField : List ℕ → Result PathError InfoField
+newInfoField part = do
+  require (eqb (length part) infoFieldLength) InadequateBufferSize
+  ok (infoFieldAt part 0)
+
+-- as it is handed back; all zero where it is refused
+abbrev pub infoFieldRead : Result PathError InfoField → InfoFieldRead
+infoFieldRead r = record { answer = answerOf r; field = orElse r zeroInfoField }
+
+-- the one at `at` among bytes; all zero where they end before it does
+abbrev pub infoFieldIn : List ℕ → ℕ → InfoField
+infoFieldIn bytes at = orElse (newInfoField (part at infoFieldLength bytes)) zeroInfoField
 
 -- C, bit 0: in construction direction; P, bit 1: peering
 abbrev pub constructedDir : InfoField → Bool
@@ -65,10 +82,18 @@ unfoldable pub zeroHopField : HopField
 zeroHopField = record { flags = 0; «exp_time» = 0; «cons_ingress» = 0; «cons_egress» = 0; mac = replicate 6 0 }
 
 -- a hop field of a part: 9 unless the part has 12 bytes
-unfoldable pub newHopField : List ℕ → HopFieldRead
-newHopField bytes =
-    cond (eqb (length bytes) 12) (record { answer = Accepted; field = hopFieldAt bytes 0 })
-    (record { answer = Refused InadequateBufferSize; field = zeroHopField })
+unfoldable pub newHopField : List ℕ → Result PathError HopField
+newHopField part = do
+  require (eqb (length part) hopFieldLength) InadequateBufferSize
+  ok (hopFieldAt part 0)
+
+-- as it is handed back; all zero where it is refused
+abbrev pub hopFieldRead : Result PathError HopField → HopFieldRead
+hopFieldRead r = record { answer = answerOf r; field = orElse r zeroHopField }
+
+-- the one at `at` among bytes; all zero where they end before it does
+abbrev pub hopFieldIn : List ℕ → ℕ → HopField
+hopFieldIn bytes at = orElse (newHopField (part at hopFieldLength bytes)) zeroHopField
 
 unfoldable pub withFlags : ℕ → HopField → HopField
 withFlags flags hop =

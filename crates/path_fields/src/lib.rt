@@ -3,6 +3,7 @@ use errors::path_error::Answer;
 use errors::path_error::PathError;
 use wire_encoding::flags::with_bit_0;
 use wire_encoding::flags::with_bit_1;
+use wire_encoding::read::part_of;
 use wire_encoding::read::u16_or_zero;
 use wire_encoding::read::u32_or_zero;
 ghost use mathlib.Core.Path.{_≡_};
@@ -54,7 +55,7 @@ impl InfoField {
 
     // The info field that a part of exactly 8 bytes spells.
     pub fn new(part: &[u8]) -> InfoFieldRead
-        ensures { λ r. ⌜ r ≡ spec.newInfoField (now (part .entry)) ⌝ }
+        ensures { λ r. ⌜ r ≡ spec.infoFieldRead (spec.newInfoField (now (part .entry))) ⌝ }
     {
         if part.len() == InfoField::LENGTH {
             return InfoFieldRead {
@@ -76,6 +77,13 @@ impl InfoField {
                 timestamp: 0,
             },
         }
+    }
+
+    // The info field at `start`; all zero where the bytes end before it does.
+    pub fn at(bytes: &[u8], start: usize) -> InfoField
+        ensures { λ r. ⌜ r ≡ spec.infoFieldIn (now (bytes .entry)) start ⌝ }
+    {
+        InfoField::new(part_of(bytes, start, InfoField::LENGTH)).field
     }
 
     // Whether the segment has a peering hop field.
@@ -114,7 +122,7 @@ impl HopField {
 
     // The hop field that a part of exactly 12 bytes spells.
     pub fn new(part: &[u8]) -> HopFieldRead
-        ensures { λ r. ⌜ r ≡ spec.newHopField (now (part .entry)) ⌝ }
+        ensures { λ r. ⌜ r ≡ spec.hopFieldRead (spec.newHopField (now (part .entry))) ⌝ }
     {
         if part.len() == HopField::LENGTH {
             let mac = [part[6], part[7], part[8], part[9], part[10], part[11]];
@@ -139,6 +147,13 @@ impl HopField {
                 mac: [0; 6],
             },
         }
+    }
+
+    // The hop field at `start`; all zero where the bytes end before it does.
+    pub fn at(bytes: &[u8], start: usize) -> HopField
+        ensures { λ r. ⌜ r ≡ spec.hopFieldIn (now (bytes .entry)) start ⌝ }
+    {
+        HopField::new(part_of(bytes, start, HopField::LENGTH)).field
     }
 
     pub fn is_cons_ingress_router_alert(self) -> bool

@@ -8,9 +8,9 @@ use native.Mathlib.Omega.{arith}
 use lib.ListN.{length, take, drop, length-drop}
 use lib.Seq.{take-all, length-take-le, take-take, take-add, drop-drop, drop-at}
 use borrow.Author.Tests.{le-ltb}
-use Rattle.wire_encoding.specs.BigEndian.{part}
+use Rattle.wire_encoding.specs.BigEndian.{part, records}
 use Rattle.wire_encoding.proofs.Lists.{length-part, part-part}
-use Rattle.path_hop_fields.specs.Run.{count, first, afterFirst, last, beforeLast, hopField, firstHopFields, hopFields}
+use Rattle.path_hop_fields.specs.Run.{count, first, afterFirst, last, beforeLast, hopField, hopFields}
 use Rattle.path_hop_fields.specs.Reads.{ReadEnd, front, back, given, left, leftBy, isAt, madeAt, fromFront, fromBack, FromEitherEnd}
 use Rattle.path_hop_fields.proofs.RunParts.{to-the-end}
 
@@ -22,12 +22,12 @@ length-after n run e = length-drop 12 run ∙ (omega arith)
 length-before : (n : ℕ) (run : List ℕ) → length run ≡ suc n * 12 → length (beforeLast run) ≡ n * 12
 length-before n run e = length-take-le (length run - 12) run (omega arith) ∙ (omega arith)
 
-hop-fields : (n : ℕ) (run : List ℕ) → length run ≡ n * 12 → hopFields run ≡ firstHopFields n run
-hop-fields n run e = let number : count run ≡ n = omega arith in ap (λ (k : ℕ). firstHopFields k run) number
+hop-fields : (n : ℕ) (run : List ℕ) → length run ≡ n * 12 → hopFields run ≡ records 12 n run
+hop-fields n run e = let number : count run ≡ n = omega arith in ap (λ (k : ℕ). records 12 k run) number
 
 -- the hop field at the front stands before the others
 at-front : (n : ℕ) (run : List ℕ) → length run ≡ suc n * 12 → first run ∷ hopFields (afterFirst run) ≡ hopFields run
-unfolding first firstHopFields
+unfolding first records
 at-front n run e =
     let long : 12 ≤ length run = omega arith in
     rw (le-ltb _ _ long, hop-fields n (afterFirst run) (length-after n run e), hop-fields (suc n) run e)
@@ -39,8 +39,8 @@ drop-take k run long =
     ∙ drop-at (take 12 run) (take k (drop 12 run)) 12 (length-take-le 12 run long)
 
 last-of : (n : ℕ) (run : List ℕ) → length run ≡ suc n * 12
-    → firstHopFields n (take (n * 12) run) ++ (drop (n * 12) run ∷ []) ≡ firstHopFields (suc n) run
-unfolding firstHopFields
+    → records 12 n (take (n * 12) run) ++ (drop (n * 12) run ∷ []) ≡ records 12 (suc n) run
+unfolding records
 last-of zero run e = ap (λ (l : List ℕ). l ∷ []) (sym (take-all 12 run (omega arith)))
 last-of (suc n) run e =
     let long : 12 ≤ length run = omega arith in

@@ -1,4 +1,5 @@
--- What the walks of `HopFields` share: the types of the struct and of its slice, their machine values, and the call of a function that takes a slice and returns a part of it.
+-- What the walks of `HopFields` share: the types of the struct and of its slice, their machine values, and the call of a function that
+-- takes a slice and returns a part of it.
 --     asks       what the slice owns and the lifetime's token  ⊢  what the call asks
 --     answers    what the call leaves  ⊢ ⇛ ∃ the part, of which its contract is known. what the part owns ∗ the token
 -- Assumes `Given`.
@@ -14,7 +15,33 @@ use base.Fml.{Lft, Share, ftrue, flft}
 use prog.Wp.{Heap}
 use ghost.Atoms.{Atoms, sem}
 use contract.Monad.{fact}
-use types.Kit.{Item, Given, mean, ‵, raw, some, later, _⊛_, ⋆, _$_, _∵_, !, qed, move, use1, split, join, pick, fjoin, frame, await, updating, now as at-once, show, done}
+use types.Kit.{
+  Item,
+  Given,
+  mean,
+  ‵,
+  raw,
+  some,
+  later,
+  _⊛_,
+  ⋆,
+  _$_,
+  _∵_,
+  !,
+  qed,
+  move,
+  use1,
+  split,
+  join,
+  pick,
+  fjoin,
+  frame,
+  await,
+  updating,
+  now as at-once,
+  show,
+  done,
+}
 use denote.RattleType.{RattleType}
 use denote.Laws.{Is}
 use denote.Builtin.{u8}
@@ -87,8 +114,12 @@ module _ {M : Type 1} (𝓤 : URA M) (H : Heap 𝓤) (A : Atoms 𝓤) (W : Given
   pub answers : (u : Val) → ent 𝓤 (Part 𝓤 H A f .post passed u) (mean 𝓤 H A (Answer u))
   answers u =
       qed W (raw (Part 𝓤 H A f .post passed u) ∷ []) ∵ updating ! $
-      use1 W (later (some (λ (r : RefT (List ℕ)). (token 𝓤 κ q ⊛ ‵ (Slice κ .own r (u ∷ []))) ⊛ raw (ensured 𝓤 H A part.ended (part-says 𝓤 f) (κ, tt) (s, tt) tt r))))
+      use1 W (later
+      (some (λ (r : RefT (List ℕ)). (token 𝓤 κ q ⊛ ‵ (Slice κ .own r (u ∷ []))) ⊛ raw
+      (ensured 𝓤 H A part.ended (part-says 𝓤 f) (κ, tt) (s, tt) tt r))))
       (id⊢ 𝓤 _) $ await ! tt $ pick ! (λ r. split ! $ move ! (1 ∷ []) $
-      use1 W (raw (fact 𝓤 (now r ≡ f (now s)))) (exE 𝓤 _ (λ ws. snd∗ 𝓤 (sem 𝓤 H A (lasts part.ended (κ, tt) (s, tt) ws)) (fact 𝓤 (now r ≡ f (now s))))) $
+      use1 W (raw (fact 𝓤 (now r ≡ f (now s))))
+      (exE 𝓤 _ (λ ws. snd∗ 𝓤 (sem 𝓤 H A (lasts part.ended (κ, tt) (s, tt) ws)) (fact 𝓤 (now r ≡ f (now s))))) $
       heard ! (now r ≡ f (now s)) (λ e. split ! $ at-once ! $
-      show ! (λ (x : RefT (List ℕ)). mean 𝓤 H A (some (Out u x))) r $ show ! (λ (p : now r ≡ f (now s)). mean 𝓤 H A (Out u r p)) e $ move ! (1 ∷ 0 ∷ []) $ done !))
+      show ! (λ (x : RefT (List ℕ)). mean 𝓤 H A (some (Out u x))) r $ show ! (λ (p : now r ≡ f (now s)). mean 𝓤 H A (Out u r p)) e
+      $ move ! (1 ∷ 0 ∷ []) $ done !))

@@ -5,5 +5,4 @@ pub mod Lent
 pub mod RunParts
 pub mod Taken
 pub mod Examples
-pub mod Located
 pub mod PathRuns

@@ -10,14 +10,23 @@ use borrow.Author.Tests.{ltb-true, lt-ltb}
 use Rattle.wire_encoding.specs.Result.{Result, ok, orElse}
 use Rattle.wire_encoding.specs.BigEndian.{part}
 use Rattle.wire_encoding.proofs.Lists.{length-part, part-part}
-use Rattle.wire_encoding.proofs.Result.{held}
-use Rattle.path_meta_header.specs.MetaHeader.{infoFieldsCount, hopFieldsCount, firstHopField, segmentLengthOf, pathLength, hopFieldOffset, hopStart}
+use Rattle.wire_encoding.proofs.Result.{held, same-value}
+use Rattle.path_meta_header.specs.MetaHeader.{
+  infoFieldsCount,
+  hopFieldsCount,
+  firstHopField,
+  segmentLength,
+  pathLength,
+  hopFieldOffset,
+  hopFieldsStart,
+  hopStart,
+}
 use Rattle.path_meta_header.specs.declared.PathMetaHeader.{PathMetaHeader}
 use Rattle.errors.specs.declared.path_error.PathError.{PathError}
-use Rattle.path.specs.Segment.{Fields, nowhere, segmentOfPath}
+use Rattle.path.specs.Segment.{Fields, nowhere}
 use Rattle.path.specs.Dataplane.{standard, segmentIn, hopFieldIn, partIn}
 use Rattle.path.specs.declared.standard.Part.{Part}
-use Rattle.path.proofs.Segment.{segment-within}
+use Rattle.path_meta_header.proofs.MetaHeader.{segment-within}
 use Rattle.path.proofs.Reading.{standard-readable}
 use Rattle.path_hop_fields.specs.Run.{count}
 use Rattle.path_hop_fields.specs.PathRuns.{hopFieldsIn, Run, SegmentRuns, PathRuns}
@@ -51,14 +60,14 @@ module _ (type : ℕ) (bytes : List ℕ) (m : PathMetaHeader) (read : standard t
 pub path-runs : PathRuns
 unfolding PathRuns hopFieldsIn
 path-runs type bytes m run read found =
-    let same : _≡_ {A = Result PathError Part} (ok (record { start = hopStart m 0; len = hopFieldsCount m * 12 })) (ok run) = rw read at found in
-    let is : _≡_ {A = Part} (record { start = hopStart m 0; len = hopFieldsCount m * 12 }) run = cc in
-    rw (← is) (is-run type bytes m read 0 (hopFieldsCount m) (omega arith))
+    let first : hopStart m 0 ≡ hopFieldsStart m = omega arith in
+    let is = same-value (rw read at found) in
+    rw (← is, ← first) (is-run type bytes m read 0 (hopFieldsCount m) (omega arith))
 
 pub segment-runs : SegmentRuns
-unfolding SegmentRuns segmentIn segmentOfPath
+unfolding SegmentRuns segmentIn
 segment-runs type bytes k m segment read found =
     let there = held (ltb k (infoFieldsCount m)) _ _ (rw read at found) in
-    let is : _≡_ {A = Part} (record { start = hopStart m (firstHopField m k); len = segmentLengthOf m k * 12 }) (segment .hops) =
+    let is : _≡_ {A = Part} (record { start = hopStart m (firstHopField m k); len = segmentLength m k * 12 }) (segment .hops) =
     ap (λ (r : Result PathError Fields). orElse r segment .hops) (there .1) in
-    rw (← is) (is-run type bytes m read (firstHopField m k) (segmentLengthOf m k) (segment-within m k (ltb-true _ _ (there .0)) .1))
+    rw (← is) (is-run type bytes m read (firstHopField m k) (segmentLength m k) (segment-within m k (ltb-true _ _ (there .0)) .1))

@@ -4,6 +4,7 @@ use Prim.Native.Nat.{ℕ}
 use mathlib.Core.Path.{_≡_, refl}
 use mathlib.Core.List.{List, [], _∷_, _++_}
 use Rattle.errors.specs.Errors.{answerOf, answerNumber}
+use Rattle.wire_encoding.specs.BigEndian.{records}
 use Rattle.path_fields.specs.Fields.{hopFieldAt, zeroHopField, newHopField}
 use Rattle.path_hop_fields.specs.Run as run
 use Rattle.path_hop_fields.specs.Reads.{front, back, given, left, leftBy}
@@ -29,7 +30,7 @@ three-read = (refl, (refl, (refl, (refl, (refl, refl)))))
 
 pub two-read : (run.hopFields (a ++ b) ≡ a ∷ b ∷ [])
     × ((given back (a ++ b) ≡ b) × ((leftBy (back ∷ []) (a ++ b) ≡ a) × (given front (leftBy (back ∷ back ∷ []) (a ++ b)) ≡ [])))
-unfolding run.first run.last run.firstHopFields given left leftBy
+unfolding run.first run.last records given left leftBy
 two-read = (refl, (refl, (refl, refl)))
 
 -- the one hop field is taken at the front; none is left at the back
@@ -37,6 +38,7 @@ pub one-read : run.ends a ≡ record { first = hopFieldAt a 0; last = zeroHopFie
 unfolding run.first run.last run.endsOf run.ends newHopField
 one-read = refl
 
-pub thirteen-bytes : (answerNumber (answerOf (run.runOf (0xFF ∷ a))) ≡ 9) × ((run.whole (0xFF ∷ a) ≡ []) × (answerNumber (answerOf (run.runOf a)) ≡ 0))
+pub thirteen-bytes : (answerNumber (answerOf (run.runOf (0xFF ∷ a))) ≡ 9)
+    × ((run.whole (0xFF ∷ a) ≡ []) × (answerNumber (answerOf (run.runOf a)) ≡ 0))
 unfolding run.runOf run.whole
 thirteen-bytes = (refl, (refl, refl))

@@ -3,7 +3,8 @@ use Prim.Native.Nat.{ℕ, _*_, _+_, _<_}
 use mathlib.Core.Path.{_≡_}
 use mathlib.Core.List.{List}
 use Rattle.wire_encoding.specs.Result.{Result, ok, _>>=_, orElse}
-use Rattle.path_meta_header.specs.MetaHeader.{hopFieldsCount, firstHopField, segmentLengthOf, hopStart}
+use Rattle.path_meta_header.specs.MetaHeader.{hopFieldsCount, firstHopField, segmentLength, hopFieldsStart}
+use Rattle.path_fields.specs.Fields.{hopFieldLength}
 use Rattle.path_meta_header.specs.declared.PathMetaHeader.{PathMetaHeader}
 use Rattle.errors.specs.declared.path_error.PathError.{PathError}
 use Rattle.path.specs.Segment.{Fields, nowhere}
@@ -15,7 +16,7 @@ use Rattle.path_hop_fields.specs.Run.{count, hopField}
 unfoldable pub hopFieldsIn : ℕ → List ℕ → Result PathError Part
 hopFieldsIn type bytes = do
   m ← standard type bytes
-  ok (record { start = hopStart m 0; len = hopFieldsCount m * 12 })
+  ok (record { start = hopFieldsStart m; len = hopFieldsCount m * hopFieldLength })
 
 -- THE RUNS OF A PATH: hop field j of a segment's run, and of the whole path's, is the path's own at its place
 
@@ -25,8 +26,9 @@ pub record Run (type : ℕ) (bytes : List ℕ) (part : Part) (first n : ℕ) : T
   pub hop-field : (j : ℕ) → j < n → hopField (partIn bytes part) j ≡ partIn bytes (orElse (hopFieldIn type bytes (first + j)) nowhere)
 
 unfoldable pub SegmentRuns : Type 0
-SegmentRuns = (type : ℕ) (bytes : List ℕ) (k : ℕ) (m : PathMetaHeader) (segment : Fields) → standard type bytes ≡ ok m → segmentIn type bytes k ≡ ok segment
-    → Run type bytes (segment .hops) (firstHopField m k) (segmentLengthOf m k)
+SegmentRuns = (type : ℕ) (bytes : List ℕ) (k : ℕ) (m : PathMetaHeader) (segment : Fields) → standard type bytes ≡ ok m → segmentIn type bytes k
+    ≡ ok segment
+    → Run type bytes (segment .hops) (firstHopField m k) (segmentLength m k)
 
 unfoldable pub PathRuns : Type 0
 PathRuns = (type : ℕ) (bytes : List ℕ) (m : PathMetaHeader) (run : Part) → standard type bytes ≡ ok m → hopFieldsIn type bytes ≡ ok run

@@ -1,12 +1,12 @@
 -- A run of hop fields, 12 bytes each: what a read at either end gives and what it leaves.
-use Prim.Native.Nat.{ℕ, zero, suc, _*_, _-_, _/_, _%_}
+use Prim.Native.Nat.{ℕ, _*_, _-_, _/_, _%_}
 use mathlib.Core.Bool.{cond}
-use mathlib.Core.List.{List, [], _∷_}
+use mathlib.Core.List.{List, []}
 use lib.ListN.{length, take, drop}
 use lib.Dec.{ltb, eqb}
 use Rattle.wire_encoding.specs.Result.{Result, ok, require, _>>_, orElse}
-use Rattle.wire_encoding.specs.BigEndian.{part}
-use Rattle.path_fields.specs.Fields.{newHopField}
+use Rattle.wire_encoding.specs.BigEndian.{part, records}
+use Rattle.path_fields.specs.Fields.{hopFieldLength, newHopField, zeroHopField}
 use Rattle.errors.specs.declared.path_error.PathError.{PathError}
 use Rattle.errors.specs.declared.path_error.PathError.the-variants.{InadequateBufferSize}
 use Rattle.path_hop_fields.specs.declared.view.Ends.{Ends}
@@ -39,21 +39,17 @@ last run = cond (ltb (length run) 12) [] (drop (length run - 12) run)
 abbrev pub beforeLast : List ℕ → List ℕ
 beforeLast run = take (length run - 12) run
 
--- hop field j of a run, and the first n of them
+-- hop field j of a run
 abbrev pub hopField : List ℕ → ℕ → List ℕ
-hopField run j = part (j * 12) 12 run
-
-unfoldable pub firstHopFields : ℕ → List ℕ → List (List ℕ)
-firstHopFields zero run = []
-firstHopFields (suc n) run = take 12 run ∷ firstHopFields n (drop 12 run)
+hopField run j = part (j * hopFieldLength) hopFieldLength run
 
 -- all hop fields of a run, in order
 abbrev pub hopFields : List ℕ → List (List ℕ)
-hopFields run = firstHopFields (count run) run
+hopFields run = records hopFieldLength (count run) run
 
 -- a read at the front, a read at the back, and the count that they leave
 unfoldable pub endsOf : List ℕ → List ℕ → ℕ → Ends
-endsOf front back n = record { first = newHopField front .field; last = newHopField back .field; between = n }
+endsOf front back n = record { first = orElse (newHopField front) zeroHopField; last = orElse (newHopField back) zeroHopField; between = n }
 
 unfoldable pub ends : List ℕ → Ends
 ends run = endsOf (first run) (last (afterFirst run)) (count (beforeLast (afterFirst run)))

@@ -6,8 +6,7 @@ use errors::path_error::Answer;
 use path::dataplane::DataplanePath;
 use path::dataplane::Located;
 use path_fields::HopField;
-use path_fields::InfoField;
-use path_meta_header::PathMetaHeader;
+use wire_encoding::read::part_of;
 ghost use mathlib.Core.Path.{_≡_};
 ghost use Rattle.path.specs.Dataplane.{standard, located, partIn};
 ghost use Rattle.path_hop_fields.specs.PathRuns as spec;
@@ -18,28 +17,23 @@ pub fn locate(path: DataplanePath, bytes: &[u8]) -> Located
 {
     let read = path.standard(bytes);
     let answer = read.answer;
-    let standard = read.path;
-    let meta_header = standard.meta_header;
-    match answer {
-        Answer::Accepted => {
-            let start = PathMetaHeader::LENGTH
-                + meta_header.info_fields_count() * InfoField::LENGTH;
-            Located::accepted(
-                standard,
-                start,
-                meta_header.hop_fields_count() * HopField::LENGTH,
-            )
-        }
-        Answer::Refused(error) => Located::refused(error),
+    if let Answer::Refused(error) = answer {
+        return Located::refused(error);
     }
+    let meta_header = read.path.meta_header;
+    Located::accepted(
+        read.path,
+        meta_header.hop_fields_start(),
+        meta_header.hop_fields_count() * HopField::LENGTH,
+    )
 }
 
 // The hop fields of a standard path, all of them, as a part of its bytes; empty where `locate` refuses.
 pub fn hop_fields(path: DataplanePath, bytes: &[u8]) -> &[u8]
-    ensures { λ r. ⌜ now r ≡ partIn (now (bytes .entry)) (located (standard (path .«path_type») (now (bytes .entry))) (spec.hopFieldsIn (path .«path_type») (now (bytes .entry))) .part) ⌝ }
+    ensures { λ r. ⌜ now r
+        ≡ partIn (now (bytes .entry))
+        (located (standard (path .«path_type») (now (bytes .entry))) (spec.hopFieldsIn (path .«path_type») (now (bytes .entry))) .part) ⌝ }
 {
     let part = locate(path, bytes).part;
-    let start = part.start;
-    let end = start + part.len;
-    &bytes[start..end]
+    part_of(bytes, part.start, part.len)
 }

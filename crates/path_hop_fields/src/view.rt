@@ -37,7 +37,8 @@ impl<'a> HopFields<'a> {
 
     // Takes the hop field at the front; empty where none is left.
     pub fn next(&mut self) -> &'a [u8]
-        ensures { λ r. ⌜ (now r ≡ spec.first (now (now (self .entry) .run))) × (now (now (self .exit) .run) ≡ spec.afterFirst (now (now (self .entry) .run))) ⌝ }
+        ensures { λ r. ⌜ (now r ≡ spec.first (now (now (self .entry) .run)))
+            × (now (now (self .exit) .run) ≡ spec.afterFirst (now (now (self .entry) .run))) ⌝ }
     {
         let run = self.run;
         self.run = after_first(run);
@@ -46,7 +47,8 @@ impl<'a> HopFields<'a> {
 
     // Takes the hop field at the back; empty where none is left.
     pub fn next_back(&mut self) -> &'a [u8]
-        ensures { λ r. ⌜ (now r ≡ spec.last (now (now (self .entry) .run))) × (now (now (self .exit) .run) ≡ spec.beforeLast (now (now (self .entry) .run))) ⌝ }
+        ensures { λ r. ⌜ (now r ≡ spec.last (now (now (self .entry) .run)))
+            × (now (now (self .exit) .run) ≡ spec.beforeLast (now (now (self .entry) .run))) ⌝ }
     {
         let run = self.run;
         self.run = before_last(run);

@@ -1,24 +1,23 @@
--- The interfaces of a path in the order of travel, and the alert flags of a hop field.
+-- The interfaces of a path in the order of travel.
 use Prim.Native.Nat.{ℕ, _+_, _%_, _≤_, _<_}
-use mathlib.Core.Bool.{Bool, cond}
+use mathlib.Core.Bool.{cond}
 use mathlib.Core.List.{List}
-use lib.ListN.{length, getD, set}
+use lib.ListN.{length}
 use lib.Dec.{eqb}
 use Rattle.wire_encoding.specs.Result.{Result, ok, _>>=_, orElse}
-use Rattle.wire_encoding.specs.Bits.{withBit}
-use Rattle.path_meta_header.specs.MetaHeader.{infoFieldsCount, segmentOf, interfacesCount, hopFieldOf, infoStart, hopStart}
+use Rattle.path_meta_header.specs.MetaHeader.{infoFieldsCount, segmentOf, interfacesCount, hopFieldOf, hopStart}
 use Rattle.path_meta_header.specs.declared.PathMetaHeader.{PathMetaHeader}
-use Rattle.path_fields.specs.Fields.{infoFieldAt, hopFieldAt, ingressInterface, egressInterface}
+use Rattle.path_fields.specs.Fields.{ingressInterface, egressInterface}
 use Rattle.path_fields.specs.declared.Interface.{Interface}
 use Rattle.path_fields.specs.declared.Interface.the-variants as interface
 use Rattle.errors.specs.Errors.{answerOf}
 use Rattle.errors.specs.declared.path_error.PathError.{PathError}
-use Rattle.path.specs.Dataplane.{standard, beside, hopFieldIn, Written}
+use Rattle.path.specs.Dataplane.{standard, beside}
+use Rattle.path.specs.Standard.{infoAt, hopAt}
 use Rattle.path_interfaces.specs.declared.InterfaceCount.{InterfaceCount}
 use Rattle.path_interfaces.specs.declared.InterfaceAt.{InterfaceAt}
 
--- INTERFACES
-
+-- how many there are
 unfoldable pub interfacesIn : ℕ → List ℕ → Result PathError ℕ
 interfacesIn type bytes = do
   m ← standard type bytes
@@ -27,24 +26,19 @@ interfacesIn type bytes = do
 -- of hop field j, in the direction of its segment: egress where i is even, ingress where it is odd
 unfoldable pub interfaceAt : List ℕ → PathMetaHeader → ℕ → ℕ → Interface
 interfaceAt bytes m j i =
-    let info = infoFieldAt bytes (infoStart (segmentOf m j)) in
-    let field = hopFieldAt bytes (hopStart m j) in
-    cond (eqb (i % 2) 0) (egressInterface info field) (ingressInterface info field)
+    let info = infoAt bytes (segmentOf m j) in
+    cond (eqb (i % 2) 0) (egressInterface info (hopAt bytes m j)) (ingressInterface info (hopAt bytes m j))
 
 -- interface i and its hop field; 8 where there is none
 pub record Place : Type 0 where
   pub hop : ℕ
   pub interface : Interface
 
-unfoldable pub interfaceOf : List ℕ → ℕ → PathMetaHeader → Result PathError Place
-interfaceOf bytes i m = do
-  j ← hopFieldOf m i
-  ok (record { hop = j; interface = interfaceAt bytes m j i })
-
 unfoldable pub interfaceIn : ℕ → List ℕ → ℕ → Result PathError Place
 interfaceIn type bytes i = do
   m ← standard type bytes
-  interfaceOf bytes i m
+  j ← hopFieldOf m i
+  ok (record { hop = j; interface = interfaceAt bytes m j i })
 
 -- what is handed back, beside the record of the path: all zero where it is refused
 unfoldable pub interfaceCount : Result PathError PathMetaHeader → Result PathError ℕ → InterfaceCount
@@ -59,12 +53,3 @@ interfaceFound path r =
 pub record hopIsThere (bytes : List ℕ) (m : PathMetaHeader) (j : ℕ) : Type 0 where
   pub hop-inside : hopStart m j + 12 ≤ length bytes
   pub segment-inside : segmentOf m j < infoFieldsCount m
-
--- ALERT FLAGS of hop field j: bit 1 ingress, bit 0 egress. The one bit changes
-
-unfoldable pub alerted : ℕ → Bool → ℕ → List ℕ → ℕ → Result PathError Written
-alerted bit on type bytes j = do
-  field ← hopFieldIn type bytes j
-  m ← standard type bytes
-  let flags = field .start
-  ok (record { header = m; bytes = set bytes flags (withBit bit on (getD bytes flags 0)) })

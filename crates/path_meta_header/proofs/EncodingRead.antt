@@ -11,12 +11,10 @@ use lib.Dec.{eqb}
 use borrow.Author.Tests.{lt-ltb, le-leb}
 use Rattle.wire_encoding.specs.Result.{ok}
 use Rattle.wire_encoding.proofs.Result.{same-value, held}
-use Rattle.wire_encoding.specs.BigEndian.{bigEndian, bytesOf, part, room}
-use Rattle.wire_encoding.proofs.Lists.{Bytes}
-use Rattle.wire_encoding.proofs.BigEndian.{below, length-bytesOf, read-bytesOf, bytes-read}
-use Rattle.path_meta_header.specs.declared.PathMetaHeader.{PathMetaHeader}
-use Rattle.path_meta_header.specs.MetaHeader.{nthField, metaOf, checked, readMeta}
-use Rattle.path_meta_header.specs.Encoding.{metaFits, wordOf, writeMeta}
+use Rattle.wire_encoding.specs.BigEndian.{bigEndian, bytesOf, room}
+use Rattle.wire_encoding.proofs.BigEndian.{length-bytesOf, read-bytesOf, bytes-read-back, numbers-below}
+use Rattle.path_meta_header.specs.MetaHeader.{nthField, metaOf, readMeta}
+use Rattle.path_meta_header.specs.Encoding.{metaFits, wordOf, writeMeta, MetaReadsBack, MetaWritesAgain}
 use Rattle.path_meta_header.proofs.Encoding.{fitting, word-below, meta-back, word-back, meta-written}
 
 -- the four bytes of a word spell it
@@ -26,11 +24,9 @@ spelt word h =
     ∙ read-bytesOf 4 word [] []
     ∙ mod-eq-of-lt h
 
--- reading what was written: the header, by its rules
-pub decode-encoded : (m : PathMetaHeader) (n : ℕ) {written : List ℕ} → length (m .«segment_lengths») ≡ 3 → writeMeta m n ≡ ok written
-    → readMeta written ≡ checked m
+pub meta-reads-back : MetaReadsBack
 unfolding readMeta room writeMeta
-decode-encoded m n lengths h =
+meta-reads-back m n written lengths h =
     let fits = held (metaFits m) _ _ h in
     let size = held (eqb n 4) _ _ (fits .1) in
     let word : ℕ = wordOf m in
@@ -51,9 +47,9 @@ fits-word word h =
       lt-ltb (word / 2 ^ 0 % 64) 64 (omega arith),
     )
 
--- writing what was read: the bytes that were read
-pub encode-decoded : (bytes : List ℕ) → Bytes bytes → 4 ≤ length bytes → writeMeta (metaOf (bigEndian 4 bytes 0)) 4 ≡ ok (part 0 4 bytes)
-encode-decoded bytes b long =
+pub meta-writes-again : MetaWritesAgain
+meta-writes-again bytes b long =
     let word : ℕ = bigEndian 4 bytes 0 in
-    let small : word < 2 ^ 32 = omega (arith, below bytes b 0 4) in
-    meta-written (metaOf word) 4 (fits-word word small) refl ∙ ap ok (ap (bytesOf 4) (word-back word small) ∙ bytes-read 4 bytes b 0 (omega arith))
+    let small : word < 2 ^ 32 = omega (arith, numbers-below bytes b 0 4) in
+    meta-written (metaOf word) 4 (fits-word word small) refl
+    ∙ ap ok (ap (bytesOf 4) (word-back word small) ∙ bytes-read-back 4 bytes b 0 (omega arith))

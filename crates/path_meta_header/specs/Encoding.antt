@@ -1,16 +1,18 @@
 -- A meta header written: the draft's six fields as one number, and as bytes.
-use Prim.Native.Nat.{ℕ, _+_, _*_, _^_}
+use Prim.Native.Nat.{ℕ, _+_, _*_, _^_, _≤_, _<_}
+use mathlib.Core.Path.{_≡_}
 use mathlib.Core.List.{List}
 use mathlib.Core.Bool.{Bool, _&&_}
 use lib.Dec.{ltb, eqb}
+use lib.ListN.{length, getD, take}
 use Rattle.wire_encoding.specs.Result.{Result, ok, refused, require, _>>_}
-use Rattle.wire_encoding.specs.BigEndian.{bytesOf}
+use Rattle.wire_encoding.specs.BigEndian.{bigEndian, bytesOf}
 use Rattle.errors.specs.declared.packet_error.EncodeError.{EncodeError}
 use Rattle.errors.specs.declared.packet_error.EncodeError.the-variants.{NumberTooWide, InadequateBufferSize}
 use Rattle.path_meta_header.specs.declared.PathMetaHeader.{PathMetaHeader}
 use Rattle.path_meta_header.specs.declared.Word.{Word}
 use Rattle.path_meta_header.specs.declared.Word.the-variants as word
-use Rattle.path_meta_header.specs.MetaHeader.{segmentLength}
+use Rattle.path_meta_header.specs.MetaHeader.{segmentLength, metaOf, checked, readMeta}
 
 -- whether a number has at most `bits` bits
 abbrev pub fits : ℕ → ℕ → Bool
@@ -44,3 +46,15 @@ writeMeta m n = do
   require (metaFits m) NumberTooWide
   require (eqb n 4) InadequateBufferSize
   ok (bytesOf 4 (wordOf m))
+
+-- THEOREMS
+
+-- reading what was written: the header, by its rules
+abbrev pub MetaReadsBack : Type 0
+MetaReadsBack =
+    (m : PathMetaHeader) (n : ℕ) (written : List ℕ) → length (m .«segment_lengths») ≡ 3 → writeMeta m n ≡ ok written → readMeta written ≡ checked m
+
+-- writing what was read: the bytes that were read
+abbrev pub MetaWritesAgain : Type 0
+MetaWritesAgain =
+    (bytes : List ℕ) → ((i : ℕ) → getD bytes i 0 < 256) → 4 ≤ length bytes → writeMeta (metaOf (bigEndian 4 bytes 0)) 4 ≡ ok (take 4 bytes)

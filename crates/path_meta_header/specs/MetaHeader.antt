@@ -1,11 +1,13 @@
 -- The draft's Path Meta Header: CurrINF (2 bits), CurrHF (6), RSV (6), Seg0Len, Seg1Len, Seg2Len (6 each); and what reading one finds.
-use Prim.Native.Nat.{ℕ, _+_, _*_, _-_, _/_, _%_, _^_}
+use Prim.Native.Nat.{ℕ, zero, suc, _+_, _*_, _-_, _/_, _%_, _^_, _<_}
+use mathlib.Core.Path.{_≡_}
 use mathlib.Core.List.{List, [], _∷_}
-use mathlib.Core.Bool.{Bool, cond, not, _&&_, _||_}
+use mathlib.Core.Bool.{Bool, true, cond, not, _&&_, _||_}
 use lib.ListN.{getD}
 use lib.Dec.{ltb, eqb}
 use Rattle.wire_encoding.specs.Result.{Result, ok, refused, require, _>>_, orElse}
 use Rattle.wire_encoding.specs.BigEndian.{bigEndian, room}
+use Rattle.path_fields.specs.Fields.{infoFieldLength, hopFieldLength}
 use Rattle.path_meta_header.specs.declared.PathMetaHeader.{PathMetaHeader}
 use Rattle.path_meta_header.specs.declared.MetaRead.{MetaRead}
 use Rattle.path_meta_header.specs.declared.Offset.{Offset}
@@ -37,7 +39,7 @@ metaOf fields =
       «segment_lengths» = nthField fields 3 ∷ nthField fields 4 ∷ nthField fields 5 ∷ [];
     }
 
--- segment length k
+-- the number of hop fields of segment k; none of a segment that isn't there
 abbrev pub segmentLength : PathMetaHeader → ℕ → ℕ
 segmentLength m k = getD (m .«segment_lengths») k 0
 
@@ -54,19 +56,24 @@ hopFieldsCount m = segmentLength m 0 + segmentLength m 1 + segmentLength m 2
 unfoldable pub segmentOf : PathMetaHeader → ℕ → ℕ
 segmentOf m j = cond (ltb j (segmentLength m 0)) 0 (cond (ltb j (segmentLength m 0 + segmentLength m 1)) 1 2)
 
--- the index of the first hop field of segment k, and its number of hop fields
+-- the index of the first hop field of segment k: the sum of the lengths before it
 unfoldable pub firstHopField : PathMetaHeader → ℕ → ℕ
-firstHopField m k = cond (eqb k 0) 0 (cond (eqb k 1) (segmentLength m 0) (segmentLength m 0 + segmentLength m 1))
+firstHopField m zero = 0
+firstHopField m (suc k) = firstHopField m k + segmentLength m k
 
-unfoldable pub segmentLengthOf : PathMetaHeader → ℕ → ℕ
-segmentLengthOf m k = cond (eqb k 0) (segmentLength m 0) (cond (eqb k 1) (segmentLength m 1) (segmentLength m 2))
+-- how many bytes the header has
+abbrev pub metaHeaderLength : ℕ
+metaHeaderLength = 4
 
--- where info field k and hop field j start
+-- where info field k starts, where the hop fields start, and where hop field j does
 abbrev pub infoStart : ℕ → ℕ
-infoStart k = 4 + k * 8
+infoStart k = metaHeaderLength + k * infoFieldLength
+
+abbrev pub hopFieldsStart : PathMetaHeader → ℕ
+hopFieldsStart m = infoStart (infoFieldsCount m)
 
 abbrev pub hopStart : PathMetaHeader → ℕ → ℕ
-hopStart m j = 4 + infoFieldsCount m * 8 + j * 12
+hopStart m j = hopFieldsStart m + j * hopFieldLength
 
 -- 4 + 8 · I + 12 · N
 unfoldable pub pathLength : PathMetaHeader → ℕ
@@ -130,9 +137,21 @@ checked m = do
 -- reading the meta header that begins bytes: 4 of them, then its rules
 unfoldable pub readMeta : List ℕ → Result DecodeError PathMetaHeader
 readMeta bytes = do
-  require (room bytes 0 4) PacketEmptyOrTruncated
+  require (room bytes 0 metaHeaderLength) PacketEmptyOrTruncated
   checked (metaOf (bigEndian 4 bytes 0))
 
 -- what a reader hands back: a header of zeros where it is refused
 unfoldable pub metaRead : Result DecodeError PathMetaHeader → MetaRead
 metaRead r = record { answer = decodedOf r; «meta_header» = orElse r (metaOf 0) }
+
+-- LINKS
+
+-- what an accepted header's links are: link l lies in one segment k, and joins hop fields l + k and l + k + 1 of it
+pub record Link (m : PathMetaHeader) (l : ℕ) : Type 0 where
+  pub segment : segmentOfLink m l < infoFieldsCount m
+  pub near : segmentOf m (l + segmentOfLink m l) ≡ segmentOfLink m l
+  pub far : segmentOf m (l + segmentOfLink m l + 1) ≡ segmentOfLink m l
+  pub inside : l + segmentOfLink m l + 1 < hopFieldsCount m
+
+abbrev pub Links : Type 0
+Links = (m : PathMetaHeader) → lengthsValid m ≡ true → (l : ℕ) → l < hopFieldsCount m - infoFieldsCount m → Link m l

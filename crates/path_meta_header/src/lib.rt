@@ -4,6 +4,8 @@ use errors::packet_error::Decoded;
 use errors::packet_error::EncodeError;
 use errors::packet_error::Encoded;
 use errors::path_error::DataplanePathErrorKind;
+use path_fields::HopField;
+use path_fields::InfoField;
 use wire_encoding::bounded::NewU2;
 use wire_encoding::bounded::NewU6;
 use wire_encoding::bounded::U2;
@@ -39,6 +41,7 @@ pub enum Word {
 }
 
 // The pointers, the reserved bits and the three segment lengths. Each may hold any byte: writing one tests their widths.
+#[repr(C)]
 pub struct PathMetaHeader {
     pub current_info_field: u8,
     pub current_hop_field: u8,
@@ -107,10 +110,6 @@ fn at_start(first: u8, second: u8, third: u8) -> PathMetaHeader
 impl PathMetaHeader {
     pub const LENGTH: usize = 4;
 
-    pub const INFO_FIELD_LENGTH: usize = 8;
-
-    pub const HOP_FIELD_LENGTH: usize = 12;
-
     // I, the number of info fields: the lengths before the first zero.
     pub fn info_fields_count(self) -> usize
         ensures { λ r. ⌜ (r ≡ spec.infoFieldsCount self) × (r ≤ 3) ⌝ }
@@ -176,9 +175,16 @@ impl PathMetaHeader {
         ensures { λ r. ⌜ spec.offsetFound r ≡ spec.infoFieldOffset self index ⌝ }
     {
         if index < self.info_fields_count() {
-            return Offset::At(PathMetaHeader::LENGTH + index * PathMetaHeader::INFO_FIELD_LENGTH);
+            return Offset::At(PathMetaHeader::LENGTH + index * InfoField::LENGTH);
         }
         Offset::NoSuchField
+    }
+
+    // Where the hop fields start: after the info fields.
+    pub fn hop_fields_start(self) -> usize
+        ensures { λ r. ⌜ (r ≡ spec.hopFieldsStart self) × (r ≤ 28) ⌝ }
+    {
+        PathMetaHeader::LENGTH + self.info_fields_count() * InfoField::LENGTH
     }
 
     // Where hop field `index` starts.
@@ -186,11 +192,7 @@ impl PathMetaHeader {
         ensures { λ r. ⌜ spec.offsetFound r ≡ spec.hopFieldOffset self index ⌝ }
     {
         if index < self.hop_fields_count() {
-            return Offset::At(
-                PathMetaHeader::LENGTH
-                    + self.info_fields_count() * PathMetaHeader::INFO_FIELD_LENGTH
-                    + index * PathMetaHeader::HOP_FIELD_LENGTH,
-            );
+            return Offset::At(self.hop_fields_start() + index * HopField::LENGTH);
         }
         Offset::NoSuchField
     }
@@ -199,9 +201,7 @@ impl PathMetaHeader {
     pub fn encoded_path_length(self) -> usize
         ensures { λ r. ⌜ (r ≡ spec.pathLength self) × (r ≤ 9208) ⌝ }
     {
-        PathMetaHeader::LENGTH
-            + self.info_fields_count() * PathMetaHeader::INFO_FIELD_LENGTH
-            + self.hop_fields_count() * PathMetaHeader::HOP_FIELD_LENGTH
+        self.hop_fields_start() + self.hop_fields_count() * HopField::LENGTH
     }
 
     // The segment in which hop field `index` lies.
@@ -227,34 +227,31 @@ impl PathMetaHeader {
         self.segment_of(wide(self.current_hop_field))
     }
 
-    // The index of the first hop field of segment `k`; a number above 2 counts as 2.
-    pub fn first_hop_field(self, k: usize) -> usize
-        ensures { λ r. ⌜ (r ≡ spec.firstHopField self k) × (r ≤ 510) ⌝ }
+    // The number of hop fields of segment `k`; 0 for a segment that isn't there.
+    pub fn segment_length(self, k: usize) -> usize
+        ensures { λ r. ⌜ (r ≡ spec.segmentLength self k) × (r ≤ 255) ⌝ }
     {
         let lengths = self.segment_lengths;
-        let first = wide(lengths[0]);
-        let second = wide(lengths[1]);
+        if k < 3 {
+            return wide(lengths[k]);
+        }
+        0
+    }
+
+    // The index of the first hop field of segment `k`: the sum of the lengths before it.
+    pub fn first_hop_field(self, k: usize) -> usize
+        ensures { λ r. ⌜ (r ≡ spec.firstHopField self k) × (r ≤ 765) ⌝ }
+    {
         if k == 0 {
             return 0;
         }
         if k == 1 {
-            return first;
+            return self.segment_length(0);
         }
-        first + second
-    }
-
-    // The number of hop fields of segment `k`; a number above 2 counts as 2.
-    pub fn segment_length(self, k: usize) -> usize
-        ensures { λ r. ⌜ (r ≡ spec.segmentLengthOf self k) × (r ≤ 255) ⌝ }
-    {
-        let lengths = self.segment_lengths;
-        if k == 0 {
-            return wide(lengths[0]);
+        if k == 2 {
+            return self.segment_length(0) + self.segment_length(1);
         }
-        if k == 1 {
-            return wide(lengths[1]);
-        }
-        wide(lengths[2])
+        self.hop_fields_count()
     }
 
     // Whether the first length is not zero and no length follows a zero one.

@@ -1,83 +1,19 @@
--- Worked examples of moves and walks, computed: what accumulator is met, and what a walk reports.
+-- The worked examples hold, by computing each.
 -- Assumes nothing.
-use mathlib.Core.Path.{_≡_, refl}
-use mathlib.Core.List.{List, [], _∷_, map}
-use Prim.Native.Nat.{ℕ, _+_}
-use lib.ListN.{take}
-use Rattle.wire_encoding.specs.Result.{orElse}
+use mathlib.Core.Path.{refl}
 use Rattle.wire_encoding.specs.BigEndian.{bigEndian, bytesOf, room}
-use Rattle.errors.specs.Errors.{answerNumber}
+use Rattle.path_fields.specs.Fields as fields
 use Rattle.path_meta_header.specs.MetaHeader as meta
 use Rattle.path.specs.Standard as standard
-use Rattle.path_meta_header.specs.MetaHeader.{infoStart}
 use Rattle.path.specs.Dataplane as dataplane
 use Rattle.path_moves.specs.Moves as moves
 use Rattle.path_moves.specs.Rules as rules
+use Rattle.path_moves.specs.Examples.{Computed, along, against, peered, peeredOtherWay, unpeered, met, reported, steps}
 
--- one segment of two hop fields, accumulator 1111, first code A0 0B, second 0C D0; in construction direction and against it
-unfoldable pub along : List ℕ
-along = 0x00 ∷ 0x00 ∷ 0x20 ∷ 0x00 ∷ 0x01 ∷ 0x00 ∷ 0x11 ∷ 0x11 ∷ 0x00 ∷ 0x00 ∷ 0x00 ∷ 0x01 ∷ 0x00 ∷ 0x00 ∷ 0x00 ∷ 0x00 ∷ 0x00 ∷ 0x05 ∷ 0xA0 ∷ 0x0B ∷ 0xC1 ∷ 0xC2 ∷ 0xC3 ∷ 0xC4 ∷ 0x00 ∷ 0x00 ∷ 0x00 ∷ 0x07 ∷ 0x00 ∷ 0x00 ∷ 0x0C ∷ 0xD0 ∷ 0xE1 ∷ 0xE2 ∷ 0xE3 ∷ 0xE4 ∷ []
-
-unfoldable pub against : List ℕ
-against = 0x00 ∷ 0x00 ∷ 0x20 ∷ 0x00 ∷ 0x00 ∷ 0x00 ∷ 0x11 ∷ 0x11 ∷ 0x00 ∷ 0x00 ∷ 0x00 ∷ 0x01 ∷ 0x00 ∷ 0x00 ∷ 0x00 ∷ 0x00 ∷ 0x00 ∷ 0x05 ∷ 0xA0 ∷ 0x0B ∷ 0xC1 ∷ 0xC2 ∷ 0xC3 ∷ 0xC4 ∷ 0x00 ∷ 0x00 ∷ 0x00 ∷ 0x07 ∷ 0x00 ∷ 0x00 ∷ 0x0C ∷ 0xD0 ∷ 0xE1 ∷ 0xE2 ∷ 0xE3 ∷ 0xE4 ∷ []
-
--- two segments of three hop fields with peering, the first against construction direction, the second in it; the other way round; and no peering
-unfoldable pub peered : List ℕ
-peered = 0x00 ∷ 0x00 ∷ 0x30 ∷ 0xC0 ∷ 0x02 ∷ 0x00 ∷ 0x11 ∷ 0x11 ∷ 0x00 ∷ 0x00 ∷ 0x00 ∷ 0x01 ∷ 0x03 ∷ 0x00 ∷ 0x22 ∷ 0x22 ∷ 0x00 ∷ 0x00 ∷ 0x00 ∷ 0x01 ∷ 0x00 ∷ 0x00 ∷ 0x00 ∷ 0x01 ∷ 0x00 ∷ 0x02 ∷ 0xA0 ∷ 0x0B ∷ 0x10 ∷ 0x20 ∷ 0x30 ∷ 0x40 ∷ 0x00 ∷ 0x00 ∷ 0x00 ∷ 0x03 ∷ 0x00 ∷ 0x04 ∷ 0xA1 ∷ 0x0C ∷ 0x11 ∷ 0x21 ∷ 0x31 ∷ 0x41 ∷ 0x00 ∷ 0x00 ∷ 0x00 ∷ 0x05 ∷ 0x00 ∷ 0x06 ∷ 0xA2 ∷ 0x0D ∷ 0x12 ∷ 0x22 ∷ 0x32 ∷ 0x42 ∷ 0x00 ∷ 0x00 ∷ 0x00 ∷ 0x07 ∷ 0x00 ∷ 0x08 ∷ 0xA3 ∷ 0x0E ∷ 0x13 ∷ 0x23 ∷ 0x33 ∷ 0x43 ∷ 0x00 ∷ 0x00 ∷ 0x00 ∷ 0x09 ∷ 0x00 ∷ 0x0A ∷ 0xA4 ∷ 0x0F ∷ 0x14 ∷ 0x24 ∷ 0x34 ∷ 0x44 ∷ 0x00 ∷ 0x00 ∷ 0x00 ∷ 0x0B ∷ 0x00 ∷ 0x0C ∷ 0xA5 ∷ 0x10 ∷ 0x15 ∷ 0x25 ∷ 0x35 ∷ 0x45 ∷ []
-
-unfoldable pub peeredOtherWay : List ℕ
-peeredOtherWay = 0x00 ∷ 0x00 ∷ 0x30 ∷ 0xC0 ∷ 0x03 ∷ 0x00 ∷ 0x11 ∷ 0x11 ∷ 0x00 ∷ 0x00 ∷ 0x00 ∷ 0x01 ∷ 0x02 ∷ 0x00 ∷ 0x22 ∷ 0x22 ∷ 0x00 ∷ 0x00 ∷ 0x00 ∷ 0x01 ∷ 0x00 ∷ 0x00 ∷ 0x00 ∷ 0x01 ∷ 0x00 ∷ 0x02 ∷ 0xA0 ∷ 0x0B ∷ 0x10 ∷ 0x20 ∷ 0x30 ∷ 0x40 ∷ 0x00 ∷ 0x00 ∷ 0x00 ∷ 0x03 ∷ 0x00 ∷ 0x04 ∷ 0xA1 ∷ 0x0C ∷ 0x11 ∷ 0x21 ∷ 0x31 ∷ 0x41 ∷ 0x00 ∷ 0x00 ∷ 0x00 ∷ 0x05 ∷ 0x00 ∷ 0x06 ∷ 0xA2 ∷ 0x0D ∷ 0x12 ∷ 0x22 ∷ 0x32 ∷ 0x42 ∷ 0x00 ∷ 0x00 ∷ 0x00 ∷ 0x07 ∷ 0x00 ∷ 0x08 ∷ 0xA3 ∷ 0x0E ∷ 0x13 ∷ 0x23 ∷ 0x33 ∷ 0x43 ∷ 0x00 ∷ 0x00 ∷ 0x00 ∷ 0x09 ∷ 0x00 ∷ 0x0A ∷ 0xA4 ∷ 0x0F ∷ 0x14 ∷ 0x24 ∷ 0x34 ∷ 0x44 ∷ 0x00 ∷ 0x00 ∷ 0x00 ∷ 0x0B ∷ 0x00 ∷ 0x0C ∷ 0xA5 ∷ 0x10 ∷ 0x15 ∷ 0x25 ∷ 0x35 ∷ 0x45 ∷ []
-
-unfoldable pub unpeered : List ℕ
-unpeered = 0x00 ∷ 0x00 ∷ 0x30 ∷ 0xC0 ∷ 0x00 ∷ 0x00 ∷ 0x11 ∷ 0x11 ∷ 0x00 ∷ 0x00 ∷ 0x00 ∷ 0x01 ∷ 0x01 ∷ 0x00 ∷ 0x22 ∷ 0x22 ∷ 0x00 ∷ 0x00 ∷ 0x00 ∷ 0x01 ∷ 0x00 ∷ 0x00 ∷ 0x00 ∷ 0x01 ∷ 0x00 ∷ 0x02 ∷ 0xA0 ∷ 0x0B ∷ 0x10 ∷ 0x20 ∷ 0x30 ∷ 0x40 ∷ 0x00 ∷ 0x00 ∷ 0x00 ∷ 0x03 ∷ 0x00 ∷ 0x04 ∷ 0xA1 ∷ 0x0C ∷ 0x11 ∷ 0x21 ∷ 0x31 ∷ 0x41 ∷ 0x00 ∷ 0x00 ∷ 0x00 ∷ 0x05 ∷ 0x00 ∷ 0x06 ∷ 0xA2 ∷ 0x0D ∷ 0x12 ∷ 0x22 ∷ 0x32 ∷ 0x42 ∷ 0x00 ∷ 0x00 ∷ 0x00 ∷ 0x07 ∷ 0x00 ∷ 0x08 ∷ 0xA3 ∷ 0x0E ∷ 0x13 ∷ 0x23 ∷ 0x33 ∷ 0x43 ∷ 0x00 ∷ 0x00 ∷ 0x00 ∷ 0x09 ∷ 0x00 ∷ 0x0A ∷ 0xA4 ∷ 0x0F ∷ 0x14 ∷ 0x24 ∷ 0x34 ∷ 0x44 ∷ 0x00 ∷ 0x00 ∷ 0x00 ∷ 0x0B ∷ 0x00 ∷ 0x0C ∷ 0xA5 ∷ 0x10 ∷ 0x15 ∷ 0x25 ∷ 0x35 ∷ 0x45 ∷ []
-
--- the accumulator that is met after a walk of n moves
-unfoldable pub met : List ℕ → ℕ → ℕ
-met bytes n =
-    let there = moves.walked 1 bytes n in
-    bigEndian 2 there (infoStart (orElse (meta.readMeta there) (meta.metaOf 0) .«current_info_field») + 2)
-
--- what a walk reports
-unfoldable pub reported : List ℕ → ℕ → List ℕ
-reported bytes limit =
-    let walk = moves.walkAnswer 1 (moves.walk 1 bytes limit) in
-    answerNumber (walk .answer) ∷ walk .moves ∷ walk .path .«meta_header» .«current_hop_field» ∷ []
-
-unfoldable pub steps : List ℕ
-steps = 0 ∷ 1 ∷ 2 ∷ 3 ∷ 4 ∷ 5 ∷ []
-
-pub first-bytes : (take 8 (moves.moved 1 along) ≡ 0x01 ∷ 0x00 ∷ 0x20 ∷ 0x00 ∷ 0x01 ∷ 0x00 ∷ 0xB1 ∷ 0x1A ∷ [])
-    × (take 8 (moves.moved 1 against) ≡ 0x01 ∷ 0x00 ∷ 0x20 ∷ 0x00 ∷ 0x00 ∷ 0x00 ∷ 0x1D ∷ 0xC1 ∷ [])
-unfolding along against bigEndian bytesOf room
+pub computed : Computed
+unfolding along against peered peeredOtherWay unpeered met reported steps bigEndian bytesOf room fields.infoFieldAt
     meta.nthField meta.metaOf meta.infoFieldsCount meta.hopFieldsCount meta.segmentOf meta.pathLength meta.lengthsValid meta.infoValid meta.hopValid
-    meta.checked meta.readMeta
-    standard.readPath
-    dataplane.readDataplane dataplane.standard
-    rules.ownerOf rules.spared moves.changeInside moves.positionOf moves.moveFrom moves.atPosition moves.applied moves.movedMeta moves.takesIn moves.moveBytes
-    rules.peerings rules.peeringAllowed rules.stateOf rules.movable moves.notLast moves.move moves.moved
-first-bytes = (refl, refl)
-
-pub accumulators-met : (map (met peered) steps ≡ 0x1111 ∷ 0xB01D ∷ 0xB01D ∷ 0x2222 ∷ 0x2222 ∷ 0x862D ∷ [])
-    × ((map (met peeredOtherWay) steps ≡ 0x1111 ∷ 0xB11A ∷ 0x1016 ∷ 0x2222 ∷ 0x862D ∷ 0x233D ∷ [])
-    × (map (met unpeered) steps ≡ 0x1111 ∷ 0xB01D ∷ 0x1210 ∷ 0x2222 ∷ 0x812C ∷ 0x2523 ∷ []))
-unfolding peered peeredOtherWay unpeered met steps bigEndian bytesOf room
-    meta.nthField meta.metaOf meta.infoFieldsCount meta.hopFieldsCount meta.segmentOf meta.pathLength meta.lengthsValid meta.infoValid meta.hopValid
-    meta.checked meta.readMeta
-    standard.readPath
-    dataplane.readDataplane dataplane.standard
-    rules.ownerOf rules.spared moves.changeInside moves.positionOf moves.moveFrom moves.atPosition moves.applied moves.movedMeta moves.takesIn moves.moveBytes
-    rules.peerings rules.peeringAllowed rules.stateOf rules.movable moves.notLast moves.move moves.moved
-    moves.walkMoves moves.walk moves.walked
-accumulators-met = (refl, (refl, refl))
-
-pub walks-reported : map (reported peered) (0 ∷ 3 ∷ 5 ∷ 18446744073709551615 ∷ [])
-    ≡ (0 ∷ 0 ∷ 0 ∷ []) ∷ (0 ∷ 3 ∷ 3 ∷ []) ∷ (0 ∷ 5 ∷ 5 ∷ []) ∷ (0 ∷ 5 ∷ 5 ∷ []) ∷ []
-unfolding peered reported bigEndian bytesOf room
-    meta.nthField meta.metaOf meta.infoFieldsCount meta.hopFieldsCount meta.segmentOf meta.pathLength meta.lengthsValid meta.infoValid meta.hopValid
-    meta.checked meta.readMeta
-    standard.readPath
-    dataplane.readDataplane dataplane.standard
-    rules.ownerOf rules.spared moves.changeInside moves.positionOf moves.moveFrom moves.atPosition moves.applied moves.movedMeta moves.takesIn moves.moveBytes
-    rules.peerings rules.peeringAllowed rules.stateOf rules.movable moves.notLast moves.move moves.moved
-    moves.walkMoves moves.walk moves.walked moves.walkAnswer
-walks-reported = refl
+    meta.checked meta.readMeta standard.readPath dataplane.readDataplane dataplane.standard dataplane.metaHeaderOf
+    rules.ownerOf rules.spared rules.somePeering rules.peeringPath rules.peeringAllowed rules.movable
+    moves.takesIn moves.moveBytes moves.isLast moves.move moves.moved moves.walkMoves moves.walk moves.walked moves.walkAnswer moves.infoOf
+computed = ((refl, refl), (refl, refl, refl), refl)

@@ -1,5 +1,7 @@
 pub mod Rules
-pub mod Examples
 pub mod Moves
-pub mod Sums
+pub mod Fields
 pub mod Walks
+pub mod Sums
+pub mod Accumulators
+pub mod Examples

@@ -1,28 +1,29 @@
--- A move leaves a path that can be moved.
+-- A move writes one byte of the header and at most two of an accumulator, so it leaves a path that can be moved, and all else stays.
 -- Assumes nothing.
 use Prim.Native.Nat.{ℕ, zero, suc, _+_, _*_, _/_, _%_, _^_, _≤_, _<_}
 use mathlib.Core.Path.{_≡_, refl, sym, ap, _∙_}
-use mathlib.Core.Bool.{Bool, true, false, not, _&&_, cond}
+use mathlib.Core.Bool.{Bool, true, false, not, cond}
 use mathlib.Core.List.{List}
 use native.Mathlib.Nat.{add-zero, add-suc}
 use native.Mathlib.Omega.{arith}
-use lib.Dec.{eqb}
 use lib.Bits.{bitXor, xor-zero-r}
 use lib.ListN.{length, take, getD, set, length-set}
 use lib.Seq.{sets, drop-set-lt, length-sets, getD-set-same, getD-set-other}
-use borrow.Author.Tests.{lt-ltb, eq-eqb}
+use borrow.Author.Tests.{ne-eqb}
 use Rattle.wire_encoding.specs.Result.{ok}
-use Rattle.wire_encoding.proofs.Result.{held, stepped, either}
+use Rattle.wire_encoding.proofs.Result.{held, stepped, same-value}
 use Rattle.wire_encoding.specs.BigEndian.{bigEndian, bytesOf, placed}
 use Rattle.wire_encoding.proofs.Lists.{Bytes, sets-same}
 use Rattle.wire_encoding.proofs.BigEndian.{length-bytesOf, bytes-read}
 use Rattle.wire_encoding.proofs.Writes.{placed-is}
+use Rattle.path_fields.specs.Fields.{infoFieldAt}
 use Rattle.path_meta_header.specs.MetaHeader as meta
 use Rattle.path_meta_header.specs.declared.PathMetaHeader.{PathMetaHeader}
 use Rattle.path_meta_header.specs.MetaHeader.{infoStart}
+use Rattle.path.specs.Standard.{infoAt}
 use Rattle.path.specs.Dataplane.{standard}
-use Rattle.path.proofs.Reading.{Sound, standard-read}
-use Rattle.path.proofs.Links.{segment-below}
+use Rattle.path.proofs.Reading.{standard-read}
+use Rattle.path_meta_header.proofs.MetaHeader.{Sound, counted, segment-below}
 use Rattle.path_moves.proofs.Rules.{Known, known}
 use Rattle.path_moves.specs.declared.Position.{Position}
 use Rattle.path_moves.specs.declared.Moved.{Moved}
@@ -30,7 +31,7 @@ use Rattle.path_moves.specs.Moves as spec
 use Rattle.path_moves.specs.Rules as rules
 use Rattle.path_moves.specs.Moves.{CanMove}
 
--- WHAT A MOVE KEEPS
+-- THE WORD OF A HEADER
 
 -- a word whose first byte is replaced: its first two fields are that byte's, and the others stay
 first-fields : (info hop low : ℕ) → info < 4 → hop < 64 → low < 2 ^ 24
@@ -69,114 +70,126 @@ spelt w low m p i h l r =
     let rest = other-fields (pointers p) w low in
     rw (r, two .0, two .1, rest .0, rest .1, rest .2, rest .3)
 
--- a move writes the first byte and two bytes of an info field that are not its flags: no length, no other byte of the meta header, no flags
-module _ (bytes : List ℕ) (k : ℕ) (move : Moved) where
-  abbrev pointed : List ℕ
-  pointed = set bytes 0 (pointers (move .position))
+-- A MOVE'S WRITES: the pointers' byte and, where a code is taken in, the two bytes of an accumulator
 
+module _ (bytes : List ℕ) (m : PathMetaHeader) where
+  abbrev k : ℕ
+  k = m .«current_info_field»
+
+  abbrev h : ℕ
+  h = m .«current_hop_field»
+
+  -- where the accumulator stands
   abbrev at : ℕ
   at = infoStart k + 2
 
-  abbrev number : ℕ
-  number = bitXor (bigEndian 2 bytes at) (move .change)
+  abbrev code : ℕ
+  code = spec.codeOf bytes m (rules.ownerOf (infoAt bytes k) h)
 
-  length-applied : length (spec.applied bytes k move) ≡ length bytes
-  unfolding spec.applied
-  length-applied = length-sets pointed at (bytesOf 2 number) ∙ length-set bytes 0 (pointers (move .position))
+  -- the byte of the new pointers
+  abbrev byte : ℕ
+  byte = meta.segmentOf m (h + 1) * 64 + (h + 1)
 
-  -- the second of its two writes has room
-  pub applied-placed : at + 2 ≤ length bytes → placed pointed at (bytesOf 2 number) ≡ spec.applied bytes k move
-  unfolding spec.applied
-  applied-placed h =
-      placed-is pointed at (bytesOf 2 number) 2 (length-bytesOf 2 number) (simp length-set h)
+  abbrev pointed : List ℕ
+  pointed = set bytes 0 byte
 
-  beside : (j : ℕ) → (j ≡ at → ⊥) → (j ≡ suc at → ⊥) → getD (spec.applied bytes k move) j 0 ≡ getD pointed j 0
-  unfolding spec.applied bytesOf
-  beside j x y =
-      getD-set-other (set pointed at (number / 256 % 256)) (suc at) j (number % 256) 0 y
+  -- the accumulator with a number taken in
+  abbrev taken : ℕ → List ℕ
+  taken n = sets pointed at (bytesOf 2 (bitXor (bigEndian 2 bytes at) n))
+
+  length-pointed : length pointed ≡ length bytes
+  length-pointed = length-set bytes 0 byte
+
+  pub length-moveBytes : length (spec.moveBytes bytes m) ≡ length bytes
+  unfolding spec.moveBytes
+  length-moveBytes = go (spec.takesIn bytes m k h)
+    where
+      go : (t : Bool) → length (cond t (taken code) pointed) ≡ length bytes
+      go true = length-sets pointed at (bytesOf 2 (bitXor (bigEndian 2 bytes at) code)) ∙ length-pointed
+      go false = length-pointed
+
+  taken-beside : (j n : ℕ) → (j ≡ at → ⊥) → (j ≡ at + 1 → ⊥) → getD (taken n) j 0 ≡ getD pointed j 0
+  unfolding bytesOf
+  taken-beside j n x y =
+      let number = bitXor (bigEndian 2 bytes at) n in
+      getD-set-other (set pointed at (number / 256 % 256)) (suc at) j (number % 256) 0 (λ e. y (omega arith))
       ∙ getD-set-other pointed at j (number / 256 % 256) 0 x
 
-  first : 0 < length bytes → getD (spec.applied bytes k move) 0 0 ≡ pointers (move .position)
-  first h = beside 0 (λ e. omega arith) (λ e. omega arith) ∙ getD-set-same bytes 0 (pointers (move .position)) 0 h
+  pointers-written : 0 < length bytes → getD (spec.moveBytes bytes m) 0 0 ≡ byte
+  unfolding spec.moveBytes
+  pointers-written some = go (spec.takesIn bytes m k h)
+    where
+      written : getD pointed 0 0 ≡ byte
+      written = getD-set-same bytes 0 byte 0 some
 
-  other : (j : ℕ) → (j ≡ 0 → ⊥) → (j ≡ at → ⊥) → (j ≡ suc at → ⊥) → getD (spec.applied bytes k move) j 0 ≡ getD bytes j 0
-  other j x y z = beside j y z ∙ getD-set-other bytes 0 j (pointers (move .position)) 0 x
+      go : (t : Bool) → getD (cond t (taken code) pointed) 0 0 ≡ byte
+      go true = taken-beside 0 code (λ e. omega arith) (λ e. omega arith) ∙ written
+      go false = written
 
-  header-kept : (j : ℕ) → 0 < j → j < 4 → getD (spec.applied bytes k move) j 0 ≡ getD bytes j 0
-  header-kept j above below = other j (λ e. omega arith) (λ e. omega arith) (λ e. omega arith)
+  -- all else stays
+  pub stays : (j : ℕ) → (j ≡ 0 → ⊥)
+      → (spec.takesIn bytes m (m .«current_info_field») (m .«current_hop_field») ≡ true
+      → (j ≡ infoStart (m .«current_info_field») + 2 → ⊥) × (j ≡ infoStart (m .«current_info_field») + 3 → ⊥))
+      → getD (spec.moveBytes bytes m) j 0 ≡ getD bytes j 0
+  unfolding spec.moveBytes
+  stays j x y = go (spec.takesIn bytes m k h) refl
+    where
+      kept : getD pointed j 0 ≡ getD bytes j 0
+      kept = getD-set-other bytes 0 j byte 0 x
 
-  low-kept : lowOf (spec.applied bytes k move) ≡ lowOf bytes
+      go : (t : Bool) → spec.takesIn bytes m k h ≡ t → getD (cond t (taken code) pointed) j 0 ≡ getD bytes j 0
+      go true e = let apart = y e in taken-beside j code (apart .0) (λ z. apart .1 (omega arith)) ∙ kept
+      go false e = kept
+
+  -- a byte that is neither
+  pub stays-beside : (j : ℕ) → (j ≡ 0 → ⊥) → (j ≡ infoStart (m .«current_info_field») + 2 → ⊥) → (j ≡ infoStart (m .«current_info_field») + 3 → ⊥)
+      → getD (spec.moveBytes bytes m) j 0 ≡ getD bytes j 0
+  stays-beside j x y z = stays j x (λ e. (y, z))
+
+  -- an accumulator that no code is taken in stands XORed with 0
+  pub move-applied : Bytes bytes → infoStart (m .«current_info_field») + 4 ≤ length bytes
+      → spec.moveBytes bytes m ≡ spec.applied bytes (m .«current_info_field») (spec.moveFrom bytes m (spec.positionOf m))
+  unfolding spec.moveBytes spec.changeOf spec.positionOf spec.moveFrom spec.applied
+  move-applied b room = go (spec.takesIn bytes m k h)
+    where
+      kept : pointed ≡ taken 0
+      kept =
+          sym (ap (λ (n : ℕ). sets pointed at (bytesOf 2 n)) (xor-zero-r (bigEndian 2 bytes at))
+          ∙ ap (sets pointed at) (bytes-read 2 bytes b at (omega arith) ∙ ap (take 2) (sym (drop-set-lt at bytes 0 byte (omega arith))))
+          ∙ sets-same at 2 pointed (simp length-set (omega arith)))
+
+      go : (t : Bool) → cond t (taken code) pointed ≡ taken (cond t code 0)
+      go true = refl
+      go false = kept
+
+  -- the meta header's other bytes, and every info field's flags
+  header-kept : (j : ℕ) → 0 < j → j < 4 → getD (spec.moveBytes bytes m) j 0 ≡ getD bytes j 0
+  header-kept j above below = stays-beside j (λ e. omega arith) (λ e. omega arith) (λ e. omega arith)
+
+  low-kept : lowOf (spec.moveBytes bytes m) ≡ lowOf bytes
   low-kept =
       rw (header-kept 1 (omega arith) (omega arith), header-kept 2 (omega arith) (omega arith), header-kept 3 (omega arith) (omega arith))
 
-  flags-kept : (j : ℕ) → rules.flagsAt (spec.applied bytes k move) j ≡ rules.flagsAt bytes j
-  flags-kept j = other (infoStart j) (λ e. omega arith) (λ e. omega arith) (λ e. omega arith)
+  pub flags-kept : (j : ℕ) → infoAt (spec.moveBytes bytes m) j .flags ≡ infoAt bytes j .flags
+  unfolding infoFieldAt
+  flags-kept j = stays-beside (infoStart j) (λ e. omega arith) (λ e. omega arith) (λ e. omega arith)
 
-  peerings-kept : (n : ℕ) → rules.peerings (spec.applied bytes k move) n ≡ rules.peerings bytes n
-  unfolding rules.peerings
-  peerings-kept zero = refl
-  peerings-kept (suc n) = rw (peerings-kept n, flags-kept n)
+  some-peering-kept : (n : ℕ) → rules.somePeering (spec.moveBytes bytes m) n ≡ rules.somePeering bytes n
+  unfolding rules.somePeering
+  some-peering-kept zero = refl
+  some-peering-kept (suc n) = rw (some-peering-kept n, flags-kept n)
 
-pub length-moveBytes : (bytes : List ℕ) (m : PathMetaHeader) → length (spec.moveBytes bytes m) ≡ length bytes
-unfolding spec.moveBytes
-length-moveBytes bytes m = go (spec.takesIn bytes m (m .«current_info_field») (m .«current_hop_field»))
-  where
-    pointed : List ℕ
-    pointed = set bytes 0 (meta.segmentOf m (m .«current_hop_field» + 1) * 64 + (m .«current_hop_field» + 1))
+-- the second of the two writes of a move has room
+pub applied-placed : (bytes : List ℕ) (k : ℕ) (move : Moved) → infoStart k + 2 + 2 ≤ length bytes
+    → placed (set bytes 0 (pointers (move .position))) (infoStart k + 2)
+    (bytesOf 2 (bitXor (bigEndian 2 bytes (infoStart k + 2)) (move .change)))
+    ≡ spec.applied bytes k move
+unfolding spec.applied
+applied-placed bytes k move room =
+    let number = bitXor (bigEndian 2 bytes (infoStart k + 2)) (move .change) in
+    placed-is (set bytes 0 (pointers (move .position))) (infoStart k + 2) (bytesOf 2 number) 2 (length-bytesOf 2 number) (simp length-set room)
 
-    length-pointed : length pointed ≡ length bytes
-    length-pointed = length-set bytes 0 _
-
-    taken : List ℕ
-    taken =
-        let k = m .«current_info_field» in
-        let code = spec.codeOf bytes m (rules.ownerOf (rules.flagsAt bytes k) (m .«current_hop_field»)) in
-        bytesOf 2 (bitXor (bigEndian 2 bytes (infoStart k + 2)) code)
-
-    go : (t : Bool) → length (cond t (sets pointed (infoStart (m .«current_info_field») + 2) taken) pointed) ≡ length bytes
-    go true = length-sets pointed _ taken ∙ length-pointed
-    go false = length-pointed
-
--- an accumulator that no code is taken in stands XORed with 0
-pub move-applied : (bytes : List ℕ) (m : PathMetaHeader) → Bytes bytes → infoStart (m .«current_info_field») + 4 ≤ length bytes
-    → spec.moveBytes bytes m ≡ spec.applied bytes (m .«current_info_field») (spec.moveFrom bytes m (spec.positionOf m))
-unfolding spec.moveBytes spec.takesIn spec.changeInside spec.positionOf spec.moveFrom spec.applied
-move-applied bytes m b room =
-    go (eqb (meta.segmentOf m (m .«current_hop_field» + 1)) (m .«current_info_field»))
-    (rules.spared (rules.flagsAt bytes (m .«current_info_field»)) owner (meta.segmentLength m 0)) (spec.codeOf bytes m owner)
-  where
-    owner : ℕ
-    owner = rules.ownerOf (rules.flagsAt bytes (m .«current_info_field»)) (m .«current_hop_field»)
-
-    at : ℕ
-    at = infoStart (m .«current_info_field») + 2
-
-    byte : ℕ
-    byte = meta.segmentOf m (m .«current_hop_field» + 1) * 64 + (m .«current_hop_field» + 1)
-
-    kept : set bytes 0 byte ≡ sets (set bytes 0 byte) at (bytesOf 2 (bitXor (bigEndian 2 bytes at) 0))
-    kept =
-        sym (ap (λ (n : ℕ). sets (set bytes 0 byte) at (bytesOf 2 n)) (xor-zero-r (bigEndian 2 bytes at))
-        ∙ ap (sets (set bytes 0 byte) at) (bytes-read 2 bytes b at (omega arith) ∙ ap (take 2) (sym (drop-set-lt at bytes 0 byte (omega arith))))
-        ∙ sets-same at 2 (set bytes 0 byte) (simp length-set (omega arith)))
-
-    go : (inside free : Bool) (code : ℕ)
-        → cond (inside && not free) (sets (set bytes 0 byte) at (bytesOf 2 (bitXor (bigEndian 2 bytes at) code))) (set bytes 0 byte)
-        ≡ sets (set bytes 0 byte) at (bytesOf 2 (bitXor (bigEndian 2 bytes at) (cond inside (cond free 0 code) 0)))
-    go true true code = kept
-    go true false code = refl
-    go false free code = kept
-
--- there are at most three info fields
-infos-few : (m : PathMetaHeader) → meta.infoFieldsCount m ≤ 3
-unfolding meta.infoFieldsCount
-infos-few m = go (eqb (meta.segmentLength m 0) 0) (eqb (meta.segmentLength m 1) 0) (eqb (meta.segmentLength m 2) 0)
-  where
-    go : (x y z : Bool) → cond x 0 (cond y 1 (cond z 2 3)) ≤ 3
-    go true y z = omega arith
-    go false true z = omega arith
-    go false false true = omega arith
-    go false false false = omega arith
+-- A PATH THAT CAN BE MOVED
 
 -- what the code asks of a path that is not at its last hop field
 pub record Standing (bytes : List ℕ) (m : PathMetaHeader) : Type 0 where
@@ -186,6 +199,12 @@ pub record Standing (bytes : List ℕ) (m : PathMetaHeader) : Type 0 where
   pub hop : m .«current_hop_field» + 1 < meta.hopFieldsCount m
   pub hops : meta.hopFieldsCount m ≤ 64
   pub whole : 4 + meta.infoFieldsCount m * 8 + meta.hopFieldsCount m * 12 ≤ length bytes
+
+-- a path that can be moved and is not at its last hop field
+pub can-move : (bytes : List ℕ) (m : PathMetaHeader) → rules.movable 1 bytes ≡ ok m → (m .«current_hop_field» + 1 ≡ meta.hopFieldsCount m → ⊥)
+    → CanMove bytes m
+can-move bytes m able other =
+    record { able = able; before-last = omega (arith, other, known 1 bytes able .path .sound-meta .hop) }
 
 module _ (bytes : List ℕ) (m : PathMetaHeader) (can : CanMove bytes m) where
   abbrev able : Known bytes m
@@ -197,7 +216,7 @@ module _ (bytes : List ℕ) (m : PathMetaHeader) (can : CanMove bytes m) where
       let path = able .path in
       record {
         info = path .sound-meta .info;
-        infos = infos-few m;
+        infos = counted m .few;
         next = segment-below m (path .sound-meta .lengths) (m .«current_hop_field» + 1) (can .before-last);
         hop = can .before-last;
         hops = able .few;
@@ -229,23 +248,21 @@ module _ (bytes : List ℕ) (m : PathMetaHeader) (can : CanMove bytes m) where
   unfolding spec.movedMeta spec.moveFrom spec.positionOf
   word-moved b =
       let s = standing in
-      let k = m .«current_info_field» in
-      let after = spec.applied bytes k move in
-      let low : lowOf after ≡ lowOf bytes = low-kept bytes k move in
-      let head : getD after 0 0 ≡ pointers (move .position) = first bytes k move (omega arith) in
+      let head : getD after 0 0 ≡ pointers (move .position) = pointers-written bytes m (omega arith) in
       let old : m ≡ meta.metaOf (getD bytes 0 0 * 2 ^ 24 + lowOf bytes) = able .path .word ∙ ap meta.metaOf (first-byte bytes) in
-      rw (move-applied bytes m b (omega arith), first-byte after, head, low)
+      rw (first-byte after, head, low-kept bytes m)
       (spelt (getD bytes 0 0) (lowOf bytes) m (move .position) (omega arith) (omega arith) (low-below bytes b) old)
 
   -- and are as many, with the same segments, and the same peering
   sound-moved : Sound left
-  unfolding spec.movedMeta spec.atPosition spec.moveFrom spec.positionOf meta.lengthsValid meta.infoFieldsCount meta.hopValid meta.hopFieldsCount meta.segmentOf
+  unfolding spec.movedMeta spec.atPosition spec.moveFrom spec.positionOf meta.lengthsValid meta.infoFieldsCount meta.hopFieldsCount meta.segmentOf
   sound-moved =
       let path = able .path in
       record {
         lengths = path .sound-meta .lengths;
         info = standing .next;
-        hop = rw (lt-ltb _ _ (can .before-last), eq-eqb _ _ refl);
+        hop = can .before-last;
+        segment = refl;
       }
 
   pub counts-kept : (meta.infoFieldsCount left ≡ meta.infoFieldsCount m) × (meta.hopFieldsCount left ≡ meta.hopFieldsCount m)
@@ -256,11 +273,10 @@ module _ (bytes : List ℕ) (m : PathMetaHeader) (can : CanMove bytes m) where
   unfolding meta.pathLength
   whole-moved = omega (arith, counts-kept, length-moveBytes bytes m, standing .whole)
 
-  peering-moved : Bytes bytes → rules.peeringAllowed after left ≡ true
-  unfolding rules.peeringAllowed
-  peering-moved b =
-      let s = standing in
-      rw (move-applied bytes m b (omega arith), counts-kept .0, peerings-kept bytes (m .«current_info_field») move (meta.infoFieldsCount m)) (able .peering)
+  peering-moved : rules.peeringAllowed after left ≡ true
+  unfolding rules.peeringAllowed rules.peeringPath
+  peering-moved =
+      rw (counts-kept .0, some-peering-kept bytes m (meta.infoFieldsCount m), flags-kept bytes m 0, flags-kept bytes m 1) (able .peering)
 
   -- so it can be moved
   pub moved-known : Bytes bytes → Known after left
@@ -268,7 +284,7 @@ module _ (bytes : List ℕ) (m : PathMetaHeader) (can : CanMove bytes m) where
       record {
         path = record { sound-meta = sound-moved; whole = whole-moved; word = word-moved b };
         few = omega (arith, counts-kept, able .few);
-        peering = peering-moved b;
+        peering = peering-moved;
       }
 
   -- and is read under the header that the move leaves
@@ -277,26 +293,30 @@ module _ (bytes : List ℕ) (m : PathMetaHeader) (can : CanMove bytes m) where
 
   -- a single move, of type 1
   pub one-move : spec.move 1 bytes ≡ ok after
-  unfolding spec.move spec.notLast
-  one-move = rw (can .able, lt-ltb _ _ (can .before-last))
+  unfolding spec.move spec.isLast
+  one-move = rw (can .able, ne-eqb (m .«current_hop_field» + 1) (meta.hopFieldsCount m) (λ e. omega (arith, can .before-last)))
 
   pub moved-is : spec.moved 1 bytes ≡ after
   unfolding spec.moved
   moved-is = rw one-move
 
--- FOR LATER USE
+-- EVERY PATH
 
--- no move changes how many bytes there are
-pub length-moved : (type : ℕ) (bytes : List ℕ) → length (spec.moved type bytes) ≡ length bytes
-unfolding spec.move spec.moved
-length-moved type bytes =
-    either (λ l. length l ≡ length bytes) (spec.move type bytes) bytes refl
-    (λ l h. let path = stepped (rules.movable type bytes) _ h in
-    let gone = held (spec.notLast (path .value)) _ _ (path .then) in
-    let is : spec.moveBytes bytes (path .value) ≡ l = cc in
-    rw (← is) (length-moveBytes bytes (path .value)))
+-- the bytes that an accepted move leaves
+move-leaves : (type : ℕ) (bytes after : List ℕ) (m : PathMetaHeader) → rules.movable type bytes ≡ ok m → spec.move type bytes ≡ ok after
+    → spec.moveBytes bytes m ≡ after
+unfolding spec.move
+move-leaves type bytes after m able accepted =
+    let read = stepped (rules.movable type bytes) _ accepted in
+    let path = read .value in
+    let left = same-value (held (not (spec.isLast path (path .«current_hop_field»))) _ _ (read .then) .1) in
+    rw (same-value (sym (read .first) ∙ able)) at left
+
+pub all-else-stays : spec.AllElseStays
+all-else-stays type bytes after m able accepted =
+    rw (← move-leaves type bytes after m able accepted) (length-moveBytes bytes m, λ j x y. stays bytes m j x y)
 
 -- a moves, then b, are a + b moves
-pub walk-add : {A : Type 0} (a b : ℕ) (f : A → A) (x : A) → spec.iterate (a + b) f x ≡ spec.iterate b f (spec.iterate a f x)
-walk-add a zero f x = rw add-zero
-walk-add a (suc b) f x = rw add-suc (ap f (walk-add a b f x))
+pub iterate-add : {A : Type 0} (a b : ℕ) (f : A → A) (x : A) → spec.iterate (a + b) f x ≡ spec.iterate b f (spec.iterate a f x)
+iterate-add a zero f x = rw add-zero
+iterate-add a (suc b) f x = rw add-suc (ap f (iterate-add a b f x))

@@ -1,62 +1,64 @@
--- A walk of a + b moves is a walk of a and then one of b: each move leaves a path that can be moved, one hop field on; a refused path stays as it is.
+-- A walk of a + b moves is a walk of a and then one of b: each move leaves a path that can be moved, one hop field on; a refused path
+-- stays as it is.
 -- Assumes nothing.
-use Prim.Native.Nat.{ℕ, zero, suc, _+_, _-_, _*_, _/_, _%_, _<_, min}
+use Prim.Native.Nat.{ℕ, zero, suc, _+_, _-_, _*_, _<_, min}
 use mathlib.Core.Path.{_≡_, refl, sym, ap, _∙_, subst}
-use mathlib.Core.List.{List, [], _∷_}
+use mathlib.Core.List.{List}
 use native.Mathlib.Nat.{add-zero, add-suc}
 use native.Mathlib.Numerals.{add-one}
 use native.Mathlib.Omega.{arith}
-use lib.ListN.{set}
-use lib.Seq.{sets}
-use lib.Dec.{eqb}
-use mir.Val.{Fits}
-use mir.Syntax.{w8}
-use Rattle.wire_encoding.specs.BigEndian.{bytesOf}
-use Rattle.wire_encoding.proofs.Lists.{Bytes}
-use Rattle.path_meta_header.specs.MetaHeader.{hopFieldsCount}
+use lib.Bits.{bitXor}
+use lib.ListN.{getD, set}
+use Rattle.wire_encoding.specs.BigEndian.{bigEndian, bytesOf}
+use Rattle.wire_encoding.proofs.BigEndian.{bytes-bytesOf}
+use Rattle.wire_encoding.proofs.Lists.{Bytes, bytes-set, bytes-sets}
+use Rattle.path_meta_header.specs.MetaHeader.{hopFieldsCount, infoStart}
 use Rattle.path_meta_header.specs.declared.PathMetaHeader.{PathMetaHeader}
-use Rattle.wire_encoding.specs.Result.{Result, ok, refused, told}
+use Rattle.wire_encoding.specs.Result.{Result, ok, refused}
 use Rattle.errors.specs.declared.path_error.PathError.{PathError}
-use Rattle.path_moves.specs.Moves.{CanMove, Way, applied, iterate, moveBytes, moveFrom, moved, movedMeta, positionOf, walk, walkMoves, walked}
+use Rattle.path_moves.specs.Moves.{
+  CanMove,
+  CountsAdd,
+  Way,
+  WalksAdd,
+  applied,
+  isLast,
+  iterate,
+  moveBytes,
+  moveFrom,
+  moved,
+  movedMeta,
+  positionOf,
+  walk,
+  walkCount,
+  walkMoves,
+  walked,
+}
 use Rattle.path_moves.specs.Rules.{movable}
-use Rattle.path_moves.proofs.Moves.{standing, fits, move-applied, moved-is, walk-add}
+use Rattle.path_moves.proofs.Moves.{standing, fits, move-applied, moved-is, iterate-add}
 use Rattle.path_moves.proofs.Rules.{type-one}
 use Rattle.path_moves.proofs.Walks.{Walking, begin, can, next, way}
 
--- how many moves a walk makes
-unfoldable pub walkCount : ℕ → List ℕ → ℕ → ℕ
-walkCount type bytes limit = told (walk type bytes limit) (λ way. way .moves) (λ error. 0)
-
 -- the walks of a and then of b moves make as many as the walk of a + b
-abbrev CountsAdd : ℕ → List ℕ → ℕ → ℕ → Type 0
-CountsAdd type bytes a b = walkCount type bytes (a + b) ≡ walkCount type bytes a + walkCount type (walked type bytes a) b
+abbrev CountAdds : ℕ → List ℕ → ℕ → ℕ → Type 0
+CountAdds type bytes a b = walkCount type bytes (a + b) ≡ walkCount type bytes a + walkCount type (walked type bytes a) b
 
 abbrev BytesAdd : ℕ → List ℕ → ℕ → ℕ → Type 0
 BytesAdd type bytes a b = walked type bytes (a + b) ≡ walked type (walked type bytes a) b
 
 -- A MOVE WRITES BYTES
 
-bytes-set : (l : List ℕ) (i v : ℕ) → Bytes l → Fits w8 v → Bytes (set l i v)
-bytes-set [] i v old new k = old k
-bytes-set (x ∷ l) zero v old new zero = new
-bytes-set (x ∷ l) zero v old new (suc k) = old (suc k)
-bytes-set (x ∷ l) (suc i) v old new zero = old zero
-bytes-set (x ∷ l) (suc i) v old new (suc k) = bytes-set l i v (λ j. old (suc j)) new k
-
-bytes-written : (l : List ℕ) (at n : ℕ) → Bytes l → Bytes (sets l at (bytesOf 2 n))
-unfolding bytesOf
-bytes-written l at n old =
-    let high = n / 256 % 256 in
-    bytes-set (set l at high) (suc at) (n % 256) (bytes-set l at high old (omega arith)) (omega arith)
-
 pub bytes-moved : (bytes : List ℕ) (m : PathMetaHeader) → CanMove bytes m → Bytes bytes → Bytes (moveBytes bytes m)
 unfolding applied
 bytes-moved bytes m c old =
-    let new = moveFrom bytes m (positionOf m) .position in
+    let made = moveFrom bytes m (positionOf m) in
     let small = fits bytes m c refl in
     let s = standing bytes m c in
+    let byte : ℕ = made .position .«current_info_field» * 64 + made .position .«current_hop_field» in
+    let at : ℕ = infoStart (m .«current_info_field») + 2 in
+    let number : ℕ = bitXor (bigEndian 2 bytes at) (made .change) in
     subst (λ (l : List ℕ). Bytes l) (sym (move-applied bytes m old (omega arith)))
-    (bytes-written (set bytes 0 (new .«current_info_field» * 64 + new .«current_hop_field»)) _ _ (bytes-set bytes 0 _ old (omega arith)))
+    (bytes-sets (bytesOf 2 number) (set bytes 0 byte) at (bytes-set bytes 0 byte old (omega arith)) (bytes-bytesOf 2 number))
 
 -- A PATH THAT CAN BE MOVED
 
@@ -91,7 +93,9 @@ module _ (bytes : List ℕ) (small : Bytes bytes) (m : PathMetaHeader) (able : m
           let step : moved 1 now ≡ moveBytes now at = moved-is now at c in
           record {
             left = movedMeta now at;
-            walking = rw (add-suc, ← add-one (m .«current_hop_field» + n), ← add-one n) (next bytes m now at (before .walking) (before .kept) below refl step);
+            walking =
+                rw (add-suc, ← add-one (m .«current_hop_field» + n), ← add-one n)
+                (next bytes m now at (before .walking) (before .kept) below refl step);
             kept = rw step (bytes-moved now at c (before .kept));
           }
 
@@ -100,7 +104,7 @@ module _ (bytes : List ℕ) (small : Bytes bytes) (m : PathMetaHeader) (able : m
   walk-made limit =
       let n = walkMoves m limit in
       record {
-        gone = record { bytes = iterate n (moved 1) bytes; moves = n; arrived = eqb (m .«current_hop_field» + n + 1) (hopFieldsCount m) };
+        gone = record { bytes = iterate n (moved 1) bytes; moves = n; arrived = isLast m (m .«current_hop_field» + n) };
         is = way bytes m limit able refl;
         count = refl;
         left = refl;
@@ -120,28 +124,31 @@ module _ (bytes : List ℕ) (small : Bytes bytes) (m : PathMetaHeader) (able : m
   unfolding walkMoves
   moves-sum = let walk = first .walking in rw (walk .count, ← walk .here) (least-sum a b (hopFieldsCount m - 1) (m .«current_hop_field»))
 
-  sums-movable : CountsAdd 1 bytes a b × BytesAdd 1 bytes a b
+  sums-movable : CountAdds 1 bytes a b × BytesAdd 1 bytes a b
   sums-movable =
       let left = iterate (walkMoves m a) (moved 1) bytes in
       let whole = walk-is bytes small m able (a + b) in
       let one = walk-is bytes small m able a in
       let two = walk-is left (first .kept) (first .left) (first .walking .able) b in
       rw (whole .0, whole .1, one .0, one .1, two .0, two .1)
-      (moves-sum, ap (λ (n : ℕ). iterate n (moved 1) bytes) moves-sum ∙ walk-add (walkMoves m a) (walkMoves (first .left) b) (moved 1) bytes)
+      (moves-sum, ap (λ (n : ℕ). iterate n (moved 1) bytes) moves-sum ∙ iterate-add (walkMoves m a) (walkMoves (first .left) b) (moved 1) bytes)
 
 -- EVERY PATH
 
-sums : (bytes : List ℕ) → Bytes bytes → (type a b : ℕ) → CountsAdd type bytes a b × BytesAdd type bytes a b
+sums : (bytes : List ℕ) → Bytes bytes → (type a b : ℕ) → CountAdds type bytes a b × BytesAdd type bytes a b
 unfolding walkCount walked walk
 sums bytes small type a b = go (movable type bytes) refl
   where
-    go : (r : Result PathError PathMetaHeader) → movable type bytes ≡ r → CountsAdd type bytes a b × BytesAdd type bytes a b
+    go : (r : Result PathError PathMetaHeader) → movable type bytes ≡ r → CountAdds type bytes a b × BytesAdd type bytes a b
     go (ok m) e = let one = type-one type bytes e in rw one (sums-movable bytes small m (rw one at e) a b)
     go (refused error) e = rw e (rw e (refl, refl))
 
-pub count-sum : (bytes : List ℕ) → Bytes bytes → (type a b : ℕ)
-    → walkCount type bytes (a + b) ≡ walkCount type bytes a + walkCount type (walked type bytes a) b
-count-sum bytes small type a b = sums bytes small type a b .0
+-- a list of bytes, as a slice's rule gives it
+bytes-of : (bytes : List ℕ) → ((i : ℕ) → getD bytes i 0 < 256) → Bytes bytes
+bytes-of bytes small i = omega (arith, small i)
 
-pub walk-sum : (bytes : List ℕ) → Bytes bytes → (type a b : ℕ) → walked type bytes (a + b) ≡ walked type (walked type bytes a) b
-walk-sum bytes small type a b = sums bytes small type a b .1
+pub walks-add : WalksAdd
+walks-add bytes small type a b = sums bytes (bytes-of bytes small) type a b .1
+
+pub counts-add : CountsAdd
+counts-add bytes small type a b = sums bytes (bytes-of bytes small) type a b .0

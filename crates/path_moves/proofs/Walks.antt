@@ -2,16 +2,13 @@
 -- Assumes nothing.
 use Prim.Native.Nat.{ℕ, _+_, _<_}
 use mathlib.Core.Path.{_≡_, refl, sym}
-use mathlib.Core.Bool.{Bool, true, false, _&&_}
 use mathlib.Core.List.{List}
 use native.Mathlib.Numerals.{add-one}
 use native.Mathlib.Omega.{arith}
-use lib.Dec.{ltb, eqb}
 use lib.ListN.{length}
-use borrow.Author.Tests.{ltb-true}
 use Rattle.wire_encoding.specs.Result.{ok}
 use Rattle.wire_encoding.proofs.Lists.{Bytes}
-use Rattle.path_meta_header.specs.MetaHeader.{hopFieldsCount, hopValid}
+use Rattle.path_meta_header.specs.MetaHeader.{hopFieldsCount}
 use Rattle.path_meta_header.specs.declared.PathMetaHeader.{PathMetaHeader}
 use Rattle.path.specs.Dataplane.{standard}
 use Rattle.path.proofs.Reading.{standard-read}
@@ -20,15 +17,6 @@ use Rattle.path_moves.specs.Moves.{CanMove, iterate}
 use Rattle.path_moves.specs.Rules.{movable}
 use Rattle.path_moves.proofs.Moves.{length-moveBytes, counts-kept, moved-known, moved-is}
 use Rattle.path_moves.proofs.Rules.{known, known-movable}
-
-both : (a b : Bool) → a && b ≡ true → a ≡ true
-both true b h = refl
-both false b h = h
-
--- a sound header's hop pointer is one of the path's
-hop-below : (m : PathMetaHeader) → hopValid m ≡ true → m .«current_hop_field» < hopFieldsCount m
-unfolding hopValid
-hop-below m h = ltb-true _ _ (both (ltb (m .«current_hop_field») (hopFieldsCount m)) _ h)
 
 -- a walk that began at bytes₀, under m₀, stands at `bytes`, under m and at this hop field, after so many moves
 pub record Walking (bytes₀ : List ℕ) (m₀ : PathMetaHeader) (bytes : List ℕ) (m : PathMetaHeader) (hop moves : ℕ) : Type 0 where
@@ -42,7 +30,7 @@ pub record Walking (bytes₀ : List ℕ) (m₀ : PathMetaHeader) (bytes : List �
 
 pub begin : (bytes : List ℕ) (m : PathMetaHeader) {hop : ℕ} → movable 1 bytes ≡ ok m → hop ≡ m .«current_hop_field» → Walking bytes m bytes m hop 0
 begin bytes m able e =
-    let below = hop-below m (known 1 bytes able .path .sound-meta .hop) in
+    let below = known 1 bytes able .path .sound-meta .hop in
     record { able = able; made = refl; here = e; gone = omega arith; count = refl; inside = omega arith; len = refl }
 
 module _ (bytes₀ : List ℕ) (m₀ : PathMetaHeader) (bytes : List ℕ) (m : PathMetaHeader) {hop moves : ℕ} (w : Walking bytes₀ m₀ bytes m hop moves) where
@@ -73,6 +61,6 @@ module _ (bytes₀ : List ℕ) (m₀ : PathMetaHeader) (bytes : List ℕ) (m : P
 -- a walk of n moves
 pub way : (bytes : List ℕ) (m : PathMetaHeader) (limit : ℕ) → movable 1 bytes ≡ ok m → {n : ℕ} → n ≡ spec.walkMoves m limit
     → spec.walk 1 bytes limit
-    ≡ ok (record { bytes = iterate n (spec.moved 1) bytes; moves = n; arrived = eqb (m .«current_hop_field» + n + 1) (hopFieldsCount m) })
+    ≡ ok (record { bytes = iterate n (spec.moved 1) bytes; moves = n; arrived = spec.isLast m (m .«current_hop_field» + n) })
 unfolding spec.walk
 way bytes m limit able en = rw (able, ← en)

@@ -19,85 +19,90 @@ ghost use Rattle.path_moves.specs.Rules as rules;
 ghost use Rattle.wire_encoding.specs.Result.{ok, refused, andThen};
 ghost use Rattle.path_moves.specs.Moves as spec;
 
-// The number of the first `count` info fields that have peering set.
-fn peering_count(bytes: &[u8], count: usize) -> usize
+// Whether peering is set on one of the first `count` info fields.
+fn some_peering(bytes: &[u8], count: usize) -> bool
     requires { ⌜ (infoStart count ≤ length (now bytes)) × (count ≤ 3) ⌝ }
-    ensures { λ r. ⌜ (r ≡ rules.peerings (now (bytes .entry)) count) × (r ≤ count) ⌝ }
+    ensures { λ r. ⌜ r ≡ rules.somePeering (now (bytes .entry)) count ⌝ }
 {
     let mut k: usize = 0;
-    let mut sum: usize = 0;
     while k < count {
-        let flags = bytes[PathMetaHeader::LENGTH + k * InfoField::LENGTH];
-        sum += wide(flags / InfoField::PEERING_FLAG % 2);
+        let info_field = InfoField::at(bytes, PathMetaHeader::LENGTH + k * InfoField::LENGTH);
+        if info_field.is_peering() {
+            return true;
+        }
         k += 1;
-    }
-    sum
-}
-
-// Whether peering is on no info field, or on both of two.
-fn peering_allowed(bytes: &[u8], meta_header: PathMetaHeader) -> bool
-    requires { ⌜ pathLength «meta_header» ≤ length (now bytes) ⌝ }
-    ensures { λ r. ⌜ r ≡ rules.peeringAllowed (now (bytes .entry)) «meta_header» ⌝ }
-{
-    let count = meta_header.info_fields_count();
-    let peering = peering_count(bytes, count);
-    if peering == 0 {
-        return true;
-    }
-    if count == 2 {
-        return peering == 2;
     }
     false
 }
 
-// Whether a path that was read can be moved: 13 for too many hop fields, 14 for peering that is not on both of two segments.
-fn state(bytes: &[u8], path: StandardPath) -> PathAnswer
-    requires { ⌜ pathLength (path .«meta_header») ≤ length (now bytes) ⌝ }
-    ensures { λ r. ⌜ r ≡ pathAnswer (rules.stateOf (now (bytes .entry)) (path .«meta_header»)) ⌝ }
+// Whether this is a peering path: two segments, and both have peering.
+fn is_peering_path(bytes: &[u8], meta_header: PathMetaHeader) -> bool
+    requires { ⌜ pathLength «meta_header» ≤ length (now bytes) ⌝ }
+    ensures { λ r. ⌜ r ≡ rules.peeringPath (now (bytes .entry)) «meta_header» ⌝ }
 {
-    if 64 < path.meta_header.hop_fields_count() {
+    if meta_header.info_fields_count() != 2 {
+        return false;
+    }
+    let first = InfoField::at(bytes, PathMetaHeader::LENGTH);
+    let second = InfoField::at(bytes, PathMetaHeader::LENGTH + InfoField::LENGTH);
+    if first.is_peering() {
+        return second.is_peering();
+    }
+    false
+}
+
+// Whether peering is set on no info field, or the path is a peering path.
+fn peering_allowed(bytes: &[u8], meta_header: PathMetaHeader) -> bool
+    requires { ⌜ pathLength «meta_header» ≤ length (now bytes) ⌝ }
+    ensures { λ r. ⌜ r ≡ rules.peeringAllowed (now (bytes .entry)) «meta_header» ⌝ }
+{
+    if some_peering(bytes, meta_header.info_fields_count()) {
+        return is_peering_path(bytes, meta_header);
+    }
+    true
+}
+
+// Reading, 8 for every type but 1, then 13 for too many hop fields and 14 for peering: where moves and walks begin.
+pub fn movable(path: DataplanePath, bytes: &[u8]) -> PathAnswer
+    ensures { λ r. ⌜ r ≡ pathAnswer (rules.movable (path .«path_type») (now (bytes .entry))) ⌝ }
+{
+    let read = path.standard(bytes);
+    let answer = read.answer;
+    if let Answer::Refused(error) = answer {
+        return PathAnswer::refused(error);
+    }
+    let meta_header = read.path.meta_header;
+    if 64 < meta_header.hop_fields_count() {
         return PathAnswer::refused(PathError::TooManyHopFields);
     }
-    if peering_allowed(bytes, path.meta_header) {
-        return PathAnswer::accepted(path);
+    if peering_allowed(bytes, meta_header) {
+        return PathAnswer::accepted(read.path);
     }
     PathAnswer::refused(PathError::PeeringNotOnBoth)
 }
 
-// Reading, 8 for every type but 1, then 13 and 14: where moves and walks begin.
-pub fn movable(path_type: u8, bytes: &[u8]) -> PathAnswer
-    ensures { λ r. ⌜ r ≡ pathAnswer (rules.movable «path_type» (now (bytes .entry))) ⌝ }
-{
-    let read = DataplanePath::new(path_type).standard(bytes);
-    let answer = read.answer;
-    match answer {
-        Answer::Accepted => state(bytes, read.path),
-        Answer::Refused(error) => PathAnswer::refused(error),
-    }
-}
-
 // The owner of the move from hop field `hop` inside a segment: the hop field whose code the accumulator takes in.
-pub fn owner_of(flags: u8, hop: u8) -> usize
-    ensures { λ r. ⌜ (r ≡ rules.ownerOf flags hop) × (r ≤ hop + 1) × (r ≤ 256) ⌝ }
+pub fn owner_of(info_field: InfoField, hop: u8) -> usize
+    ensures { λ r. ⌜ (r ≡ rules.ownerOf «info_field» hop) × (r ≤ hop + 1) × (r ≤ 256) ⌝ }
 {
     let owner = wide(hop);
-    if flags % 2 == 1 {
+    if info_field.is_constructed_dir() {
         return owner;
     }
     owner + 1
 }
 
 // Whether peering spares this owner: the last hop field of the first segment, and the first of the second.
-pub fn is_spared(flags: u8, owner: usize, first_length: usize) -> bool
-    ensures { λ r. ⌜ r ≡ rules.spared flags owner «first_length» ⌝ }
+pub fn is_spared(info_field: InfoField, owner: usize, first_length: usize) -> bool
+    ensures { λ r. ⌜ r ≡ rules.spared «info_field» owner «first_length» ⌝ }
 {
-    if flags / InfoField::PEERING_FLAG % 2 == 0 {
-        return false;
+    if info_field.is_peering() {
+        if owner < first_length {
+            return owner == first_length - 1;
+        }
+        return owner == first_length;
     }
-    if owner < first_length {
-        return owner == first_length - 1;
-    }
-    owner == first_length
+    false
 }
 
 // The pair of pointers in a path's bytes.
@@ -140,23 +145,6 @@ pub struct Walked {
     pub moves: usize,
 }
 
-// What a move inside segment `segment` changes its accumulator by: the owner's code, or 0.
-fn change_inside(bytes: &[u8], meta_header: PathMetaHeader, segment: usize) -> u16
-    requires { ⌜ spec.CanMove (now bytes) «meta_header» ⌝ }
-    requires { ⌜ (segment ≡ «meta_header» .«current_info_field») × (segment < 256) ⌝ }
-    ensures { λ r. ⌜ r ≡ spec.changeInside (now (bytes .entry)) «meta_header» segment («meta_header» .«current_hop_field») ⌝ }
-{
-    let flags = bytes[PathMetaHeader::LENGTH + segment * InfoField::LENGTH];
-    let owner = owner_of(flags, meta_header.current_hop_field);
-    if is_spared(flags, owner, meta_header.segment_length(0)) {
-        return 0;
-    }
-    let owner_at = PathMetaHeader::LENGTH
-        + meta_header.info_fields_count() * InfoField::LENGTH
-        + owner * HopField::LENGTH;
-    u16_or_zero(bytes, owner_at + 6)
-}
-
 impl Position {
     // The pointers of a header.
     fn of(meta_header: PathMetaHeader) -> Position
@@ -187,9 +175,18 @@ impl Position {
                 change: 0,
             };
         }
+        let info_field = InfoField::at(bytes, PathMetaHeader::LENGTH + segment * InfoField::LENGTH);
+        let owner = owner_of(info_field, self.current_hop_field);
+        if is_spared(info_field, owner, meta_header.segment_length(0)) {
+            return Moved {
+                position,
+                change: 0,
+            };
+        }
+        let owner_at = meta_header.hop_fields_start() + owner * HopField::LENGTH;
         Moved {
             position,
-            change: change_inside(bytes, meta_header, segment),
+            change: u16_or_zero(bytes, owner_at + 6),
         }
     }
 }
@@ -233,30 +230,23 @@ fn step(bytes: &mut [u8], meta_header: PathMetaHeader) -> PathMetaHeader
     at_position(meta_header, there)
 }
 
-// One move of a path that can be moved, unless it is at its last hop field.
-fn move_on(bytes: &mut [u8], meta_header: PathMetaHeader) -> PathAnswer
-    requires { ⌜ rules.movable 1 (now bytes) ≡ ok «meta_header» ⌝ }
-    ensures { λ r. ⌜ r ≡ pathAnswer (andThen (spec.move 1 (now (bytes .entry))) (standard 1)) ⌝ }
-    ensures { λ _. ⌜ now (bytes .exit) ≡ spec.moved 1 (now (bytes .entry)) ⌝ }
-{
-    if wide(meta_header.current_hop_field) + 1 < meta_header.hop_fields_count() {
-        let left = step(bytes, meta_header);
-        return PathAnswer::accepted(StandardPath { meta_header: left });
-    }
-    PathAnswer::refused(PathError::AtLastHopField)
-}
-
 // One move on lent bytes: the hop pointer gains 1, the info pointer names the new segment, the accumulator takes the owner's code in.
-pub fn single_move(path_type: u8, bytes: &mut [u8]) -> PathAnswer
-    ensures { λ r. ⌜ r ≡ pathAnswer (andThen (spec.move «path_type» (now (bytes .entry))) (standard «path_type»)) ⌝ }
-    ensures { λ _. ⌜ now (bytes .exit) ≡ spec.moved «path_type» (now (bytes .entry)) ⌝ }
+pub fn single_move(path: DataplanePath, bytes: &mut [u8]) -> PathAnswer
+    ensures { λ r. ⌜ r
+        ≡ pathAnswer (andThen (spec.move (path .«path_type») (now (bytes .entry))) (standard (path .«path_type»))) ⌝ }
+    ensures { λ _. ⌜ now (bytes .exit) ≡ spec.moved (path .«path_type») (now (bytes .entry)) ⌝ }
 {
-    let read = movable(path_type, bytes);
+    let read = movable(path, bytes);
     let answer = read.answer;
-    match answer {
-        Answer::Accepted => move_on(bytes, read.path.meta_header),
-        Answer::Refused(error) => PathAnswer::refused(error),
+    if let Answer::Refused(error) = answer {
+        return PathAnswer::refused(error);
     }
+    let meta_header = read.path.meta_header;
+    if wide(meta_header.current_hop_field) + 1 == meta_header.hop_fields_count() {
+        return PathAnswer::refused(PathError::AtLastHopField);
+    }
+    let left = step(bytes, meta_header);
+    PathAnswer::accepted(StandardPath { meta_header: left })
 }
 
 // Moves until the last hop field or the limit.
@@ -271,7 +261,7 @@ fn steps(bytes: &mut [u8], start: PathMetaHeader, limit: usize) -> Walked
     let mut hop = wide(start.current_hop_field);
     let mut moves: usize = 0;
     while moves < limit {
-        if count <= hop + 1 {
+        if hop + 1 == count {
             break;
         }
         meta_header = step(bytes, meta_header);
@@ -281,32 +271,24 @@ fn steps(bytes: &mut [u8], start: PathMetaHeader, limit: usize) -> Walked
     Walked { meta_header, moves }
 }
 
-// The walk of a path that can be moved.
-fn walk_on(bytes: &mut [u8], meta_header: PathMetaHeader, limit: usize) -> WalkAnswer
-    requires { ⌜ rules.movable 1 (now bytes) ≡ ok «meta_header» ⌝ }
-    ensures { λ r. ⌜ r ≡ spec.walkAnswer 1 (spec.walk 1 (now (bytes .entry)) limit) ⌝ }
-    ensures { λ _. ⌜ now (bytes .exit) ≡ spec.walked 1 (now (bytes .entry)) limit ⌝ }
+// A walk on lent bytes: moves until the last hop field or the limit.
+pub fn walk(path: DataplanePath, bytes: &mut [u8], limit: usize) -> WalkAnswer
+    ensures { λ r. ⌜ r ≡ spec.walkAnswer (path .«path_type») (spec.walk (path .«path_type») (now (bytes .entry)) limit) ⌝ }
+    ensures { λ _. ⌜ now (bytes .exit) ≡ spec.walked (path .«path_type») (now (bytes .entry)) limit ⌝ }
 {
-    let walked = steps(bytes, meta_header, limit);
+    let read = movable(path, bytes);
+    let answer = read.answer;
+    if let Answer::Refused(error) = answer {
+        return WalkAnswer::refused(error);
+    }
+    let start = read.path.meta_header;
+    let walked = steps(bytes, start, limit);
     let moves = walked.moves;
     let left = walked.meta_header;
     WalkAnswer {
         answer: Answer::Accepted,
         path: StandardPath { meta_header: left },
         moves,
-        arrived: wide(meta_header.current_hop_field) + moves + 1 == meta_header.hop_fields_count(),
-    }
-}
-
-// A walk on lent bytes: moves until the last hop field or the limit.
-pub fn walk(path_type: u8, bytes: &mut [u8], limit: usize) -> WalkAnswer
-    ensures { λ r. ⌜ r ≡ spec.walkAnswer «path_type» (spec.walk «path_type» (now (bytes .entry)) limit) ⌝ }
-    ensures { λ _. ⌜ now (bytes .exit) ≡ spec.walked «path_type» (now (bytes .entry)) limit ⌝ }
-{
-    let read = movable(path_type, bytes);
-    let answer = read.answer;
-    match answer {
-        Answer::Accepted => walk_on(bytes, read.path.meta_header, limit),
-        Answer::Refused(error) => WalkAnswer::refused(error),
+        arrived: wide(start.current_hop_field) + moves + 1 == start.hop_fields_count(),
     }
 }

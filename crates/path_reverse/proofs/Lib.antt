@@ -1,3 +1,4 @@
+pub mod Copy
 pub mod Examples
 pub mod Reverse
 pub mod Twice

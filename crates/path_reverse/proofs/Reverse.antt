@@ -1,9 +1,9 @@
 -- Laws of a reversed path: the parts of a field, the loop that writes records last one first, the size and the header of
 -- what is written.
 -- Assumes nothing.
-use mathlib.Core.Path.{_≡_, refl, sym, ap, ap₂, _∙_}
+use mathlib.Core.Path.{_≡_, refl, sym, ap, ap₂, _∙_, subst}
 use mathlib.Core.Bool.{Bool, true, false, cond}
-use mathlib.Core.List.{List, [], _∷_, _++_, map, flatten, reverse as reversed, reverse-append}
+use mathlib.Core.List.{List, [], _∷_, _++_, flatMap, reverse as reversed, reverse-append}
 use Prim.Native.Nat.{ℕ, zero, suc, _+_, _-_, _*_, _≤_, _<_}
 use native.Mathlib.Nat.{suc-mul, zero-mul, add-comm, mod-eq-of-lt}
 use native.Mathlib.Numerals.{sub-one}
@@ -11,26 +11,36 @@ use native.Mathlib.Omega.{arith}
 use lib.Dec.{eqb}
 use lib.Bits.{bitXor}
 use lib.ListN.{length, take, drop, getD, set, length-append, length-drop}
-use lib.Seq.{sets, take-all, drop-drop, length-sets}
-use borrow.Author.Tests.{lt-ltb}
-use Rattle.wire_encoding.specs.BigEndian.{bigEndian, bytesOf, part, placed}
-use Rattle.wire_encoding.proofs.Bits.{flip-bit}
-use Rattle.wire_encoding.proofs.Lists.{length-part, part-join, written-after, sets-whole}
+use lib.Seq.{sets, take-all, take-at, drop-drop, length-sets}
+use borrow.Author.Tests.{lt-ltb, ne-eqb}
+use Rattle.wire_encoding.specs.BigEndian.{bigEndian, bytesOf, part, placed, records}
+use Rattle.wire_encoding.proofs.Bits.{flip-bit, flip-above}
+use Rattle.wire_encoding.proofs.Lists.{Bytes, length-part, part-join, part-right, written-after, sets-whole, bytes-append, bytes-part}
 use Rattle.wire_encoding.proofs.BigEndian.{length-bytesOf, read-bytesOf}
 use Rattle.wire_encoding.proofs.Writes.{lent-run, placed-is}
+use Rattle.path_fields.specs.Fields.{infoFieldAt, withConstructedDir}
+use Rattle.path_fields.proofs.Fields.{directionFlipped}
 use Rattle.path_meta_header.specs.MetaHeader.{nthField, metaOf, infoFieldsCount, hopFieldsCount, pathLength}
-use Rattle.path_meta_header.specs.Reversal.{atStart, reversedMeta}
+use Rattle.path_meta_header.specs.Reversal.{atStart, reversedLengths, reversedMeta}
 use Rattle.path_meta_header.proofs.Reversal.{rowOf, row-is}
 use Rattle.path_meta_header.specs.Encoding.{metaFits, wordOf}
 use Rattle.path_meta_header.specs.declared.PathMetaHeader.{PathMetaHeader}
 use Rattle.path_meta_header.proofs.Encoding.{fitting, word-below, meta-back}
-use Rattle.path.proofs.Reading.{Readable}
+use Rattle.errors.specs.declared.packet_error.DecodeError.{DecodeError}
+use Rattle.errors.specs.declared.path_error.PathError.the-variants.{Decode, InadequateBufferSize}
+use Rattle.wire_encoding.specs.Result.{Result, ok, refused, andThen, refusing}
+use Rattle.path.specs.Standard.{readPath}
+use Rattle.path.specs.Dataplane.{Extent, headless, readDataplane}
+use Rattle.path.proofs.Reading.{Readable, readable}
+use Rattle.path_reverse.specs.Copy.{into, copy}
+use Rattle.path_reverse.proofs.Copy.{into-exact, into-other}
 use Rattle.path_reverse.specs.Reverse.{
-  records,
   reversedRecords,
   flipped,
   same,
   reversedPath,
+  reversedBytes,
+  reverse,
   Reversible,
 }
 
@@ -93,9 +103,9 @@ module _ (f : List ℕ → List ℕ) (k : ℕ) where
 
   -- so it is the first of the reversed
   pub last-first : (n : ℕ) (bytes : List ℕ) → reversedRecords f k (suc n) bytes ≡ f (part (n * k) k bytes) ++ reversedRecords f k n bytes
-  unfolding reversedRecords flatten
+  unfolding reversedRecords flatMap
   last-first n bytes =
-      ap (λ (l : List (List ℕ)). flatten (map f l))
+      ap (λ (l : List (List ℕ)). flatMap f l)
       (ap (λ (l : List (List ℕ)). reversed l) (last-record n bytes) ∙ reverse-append (records k n bytes) (part (n * k) k bytes ∷ []))
 
 -- records of k bytes, each written by f
@@ -104,7 +114,7 @@ module _ (f : List ℕ → List ℕ) (sized : Sized f) (k : ℕ) where
   length-record n bytes h = sized (part (n * k) k bytes) ∙ length-part (n * k) k bytes h
 
   pub length-reversedRecords : (n : ℕ) (bytes : List ℕ) → n * k ≤ length bytes → length (reversedRecords f k n bytes) ≡ n * k
-  unfolding reversedRecords records flatten
+  unfolding reversedRecords records flatMap
   length-reversedRecords zero bytes h = omega arith
   length-reversedRecords (suc n) bytes h =
       let more : suc n * k ≡ n * k + k = suc-mul n k in
@@ -138,14 +148,15 @@ module _ (f : List ℕ → List ℕ) (sized : Sized f) (k : ℕ) where
         ∙ lent-run last dst to m (size ∙ sym em) (omega arith) in
         let kept : length (take to dst ++ (now ++ drop m (drop to dst))) ≡ length dst = ap length written ∙ simp length-sets in
         simp sub-one (record {
-          writes = ap (λ (d : List ℕ). sets d (to + k) rest) written ∙ written-after last rest dst to k size ∙ ap (sets dst to) (sym (last-first f k n (drop from src))) ∙ i .writes;
+          writes = ap (λ (d : List ℕ). sets d (to + k) rest) written ∙ written-after last rest dst to k size
+              ∙ ap (sets dst to) (sym (last-first f k n (drop from src))) ∙ i .writes;
           in-src = omega arith;
           in-dst = omega arith;
           len = kept ∙ i .len;
         })
 
     pub done : (dst : List ℕ) (to left : ℕ) → left ≤ 0 → Left dst to left → dst ≡ goal
-    unfolding reversedRecords records flatten
+    unfolding reversedRecords records flatMap
     done dst to zero h i = i .writes
 
 -- THE WHOLE PATH
@@ -240,3 +251,90 @@ module _ (m : PathMetaHeader) (bytes : List ℕ) (fits : metaFits (reversedMeta 
   meta-reversedPath =
       let three = ap length (row-is m) ∙ by-row (λ lengths. length lengths ≡ 3) _ _ _ refl refl refl refl in
       ap metaOf word-reversedPath ∙ meta-back (reversedMeta m) three (fitting (reversedMeta m) fits)
+
+-- WHAT A REVERSED PATH HOLDS
+
+-- record j of records written last one first
+pub part-reversedRecords : (f : List ℕ → List ℕ) → Sized f → (s n j : ℕ) (bytes : List ℕ) → j < n → n * s ≤ length bytes
+    → part (j * s) s (reversedRecords f s n bytes) ≡ f (part ((n - 1 - j) * s) s bytes)
+part-reversedRecords f sized s zero j bytes l h = absurd (omega arith)
+part-reversedRecords f sized s (suc n) zero bytes l h =
+    let more : suc n * s ≡ n * s + s = suc-mul n s in
+    let none : zero * s ≡ 0 = zero-mul s in
+    let last : List ℕ = f (part (n * s) s bytes) in
+    let at : n ≡ suc n - 1 - 0 = omega arith in
+    ap (part (zero * s) s) (last-first f s n bytes)
+    ∙ ap (λ (p : ℕ). part p s (last ++ reversedRecords f s n bytes)) none
+    ∙ take-at last (reversedRecords f s n bytes) s (sized (part (n * s) s bytes) ∙ length-part (n * s) s bytes (omega arith))
+    ∙ ap (λ (i : ℕ). f (part (i * s) s bytes)) at
+part-reversedRecords f sized s (suc n) (suc j) bytes l h =
+    let more : suc n * s ≡ n * s + s = suc-mul n s in
+    let next : suc j * s ≡ s + j * s = suc-mul j s ∙ add-comm (j * s) s in
+    let last : List ℕ = f (part (n * s) s bytes) in
+    let at : n - 1 - j ≡ suc n - 1 - suc j = omega arith in
+    ap (part (suc j * s) s) (last-first f s n bytes)
+    ∙ ap (λ (p : ℕ). part p s (last ++ reversedRecords f s n bytes)) next
+    ∙ part-right s (j * s) s last (reversedRecords f s n bytes) (sized (part (n * s) s bytes) ∙ length-part (n * s) s bytes (omega arith))
+    ∙ part-reversedRecords f sized s n j bytes (omega arith) (omega arith)
+    ∙ ap (λ (i : ℕ). f (part (i * s) s bytes)) at
+
+-- an info field by its eight bytes
+pub info-flipped : (l : List ℕ) → length l ≡ 8 → infoFieldAt (flipped l) 0 ≡ directionFlipped (infoFieldAt l 0)
+unfolding flipped infoFieldAt bigEndian directionFlipped withConstructedDir
+info-flipped [] h = absurd (omega arith)
+info-flipped (flags ∷ rest) h = refl
+
+-- bytes stay bytes
+pub bytes-flipped : (l : List ℕ) → Bytes l → Bytes (flipped l)
+unfolding flipped
+bytes-flipped [] h k = h k
+bytes-flipped (v ∷ l) h zero = omega (arith, h zero, flip-above v)
+bytes-flipped (v ∷ l) h (suc k) = h (suc k)
+
+pub bytes-reversedRecords : (f : List ℕ → List ℕ) → ((l : List ℕ) → Bytes l → Bytes (f l)) → (s n : ℕ) (l : List ℕ) → Bytes l
+    → Bytes (reversedRecords f s n l)
+unfolding reversedRecords records flatMap
+bytes-reversedRecords f kept s zero l h = λ k. omega arith
+bytes-reversedRecords f kept s (suc n) l h =
+    subst (λ (x : List ℕ). Bytes x) (sym (last-first f s n l))
+    (bytes-append (f (part (n * s) s l)) (reversedRecords f s n l) (kept (part (n * s) s l) (bytes-part (n * s) s l h))
+    (bytes-reversedRecords f kept s n l h))
+
+-- THE CALL
+
+-- a header of zeros reversed
+zero-reversed : reversedMeta (metaOf 0) ≡ metaOf 0
+unfolding reversedMeta reversedLengths atStart infoFieldsCount metaOf nthField
+zero-reversed = refl
+
+-- a path that is not standard is copied
+pub reverse-copies : (type : ℕ) (bytes dst : List ℕ) → (type ≡ 1 → ⊥) → reverse type bytes dst ≡ copy type bytes dst
+unfolding reverse copy reversedBytes readDataplane
+reverse-copies type bytes dst other = rw (ne-eqb type 1 other) (go (eqb type 0))
+  where
+    opaque : Bool → Result DecodeError Extent
+    opaque empty = cond empty (ok (headless 0)) (ok (headless (length bytes)))
+
+    go : (empty : Bool)
+        → andThen (refusing Decode (opaque empty)) (λ read. into type (reversedMeta (read .header)) (take (read .length) bytes) dst)
+        ≡ andThen (refusing Decode (opaque empty)) (λ read. into type (read .header) (take (read .length) bytes) dst)
+    go true = rw zero-reversed
+    go false = rw zero-reversed
+
+-- a standard path, by what reading finds and by the size
+module _ (bytes dst : List ℕ) where
+  pub reverse-refused : {error : DecodeError} → readPath bytes ≡ refused error → reverse 1 bytes dst ≡ refused (Decode error)
+  unfolding reverse readDataplane
+  reverse-refused h = rw h
+
+  module _ {m : PathMetaHeader} (read : readPath bytes ≡ ok m) where
+    long : length (reversedPath m bytes) ≡ pathLength m
+    long = length-reversedPath m bytes (readable bytes read .whole)
+
+    pub reverse-exact : length dst ≡ pathLength m → reverse 1 bytes dst ≡ ok (record { header = reversedMeta m; bytes = reversedPath m bytes })
+    unfolding reverse reversedBytes readDataplane
+    reverse-exact h = rw (read, into-exact 1 (λ e. omega arith) (reversedMeta m) (reversedPath m bytes) dst (h ∙ sym long))
+
+    pub reverse-other : (length dst ≡ pathLength m → ⊥) → reverse 1 bytes dst ≡ refused InadequateBufferSize
+    unfolding reverse reversedBytes readDataplane
+    reverse-other h = rw (read, into-other 1 (λ e. omega arith) (reversedMeta m) (reversedPath m bytes) dst (λ e. h (e ∙ long)))

@@ -3,7 +3,7 @@
 -- Assumes nothing.
 use mathlib.Core.Path.{_≡_, refl, sym, ap, ap₂, _∙_, subst}
 use mathlib.Core.Bool.{Bool, true, false, not}
-use mathlib.Core.List.{List, [], _∷_, _++_, append-assoc, append-nil, flatten}
+use mathlib.Core.List.{List, [], _∷_, _++_, append-assoc, append-nil, flatMap}
 use Prim.Native.Nat.{ℕ, zero, suc, _+_, _-_, _*_, _/_, _%_, _^_, _≤_}
 use native.Mathlib.Nat.{suc-mul, zero-mul, add-comm}
 use native.Mathlib.Omega.{arith}
@@ -12,7 +12,7 @@ use lib.Seq.{drop-drop, drop-append-add, drop-at, take-at, take-add}
 use lib.Dec.{eqb}
 use borrow.Author.Tests.{ne-eqb, eqb-true}
 use Rattle.wire_encoding.specs.Bits.{bitOf, withBit}
-use Rattle.wire_encoding.specs.BigEndian.{bytesOf, part}
+use Rattle.wire_encoding.specs.BigEndian.{bytesOf, part, records}
 use Rattle.wire_encoding.proofs.Bits.{bit-kept}
 use Rattle.wire_encoding.proofs.Lists.{length-part}
 use Rattle.wire_encoding.proofs.BigEndian.{length-bytesOf}
@@ -20,9 +20,9 @@ use Rattle.path_meta_header.specs.MetaHeader.{metaOf, segmentLength, infoFields
 use Rattle.path_meta_header.specs.Reversal.{atStart, reversedLengths, reversedMeta}
 use Rattle.path_meta_header.specs.Encoding.{wordOf}
 use Rattle.path_meta_header.specs.declared.PathMetaHeader.{PathMetaHeader}
-use Rattle.path.proofs.Links.{Segments, one, two, three, segments}
-use Rattle.path.proofs.Reading.{Readable}
-use Rattle.path_reverse.specs.Reverse.{records, reversedRecords, flipped, same, reversedPath}
+use Rattle.path_meta_header.proofs.MetaHeader.{Segments, one, two, three, segments}
+use Rattle.path.proofs.Reading.{Readable, readable}
+use Rattle.path_reverse.specs.Reverse.{reversedRecords, flipped, same, reversedPath, ReversedTwice}
 use Rattle.path_reverse.proofs.Reverse.{Sized, sized-flipped, sized-same, last-first, length-reversedRecords}
 
 -- THE RECORDS
@@ -40,7 +40,7 @@ module _ (f : List ℕ → List ℕ) (k : ℕ) where
 
   -- the first record comes last
   first-last : (n : ℕ) (a b : List ℕ) → length a ≡ k → reversedRecords f k (suc n) (a ++ b) ≡ reversedRecords f k n b ++ f a
-  unfolding reversedRecords records flatten
+  unfolding reversedRecords records flatMap
   first-last zero a b e = append-nil _ ∙ ap f (take-at a b k e)
   first-last (suc n) a b e =
       last-first f k (suc n) (a ++ b)
@@ -53,7 +53,7 @@ module _ (f : List ℕ → List ℕ) (k : ℕ) where
   -- so reversed twice they are as they were, whatever follows them
   records-twice : Sized f → Undone f → (n : ℕ) (bytes rest : List ℕ) → n * k ≤ length bytes
       → reversedRecords f k n (reversedRecords f k n bytes ++ rest) ≡ take (n * k) bytes
-  unfolding reversedRecords records flatten
+  unfolding reversedRecords records flatMap
   records-twice sized undone zero bytes rest h = ap (λ (p : ℕ). take p bytes) (sym (zero-mul k))
   records-twice sized undone (suc n) bytes rest h =
       let more : suc n * k ≡ n * k + k = suc-mul n k in
@@ -190,9 +190,10 @@ module _ {bytes : List ℕ} {m : PathMetaHeader} (r : Readable bytes m) where
       ∙ sym (take-add (I * 8) (N * 12) (drop 4 bytes))
       ∙ ap (λ (n : ℕ). part 4 n bytes) size
 
-  -- reversed twice (of any numbers: that they are bytes is not needed)
-  pub reversed-twice : reversedPath (reversedMeta m) (reversedPath m bytes)
-      ≡ bytesOf 4 (wordOf (atStart (m .«segment_lengths»))) ++ part 4 (pathLength m - 4) bytes
-  unfolding reversedPath
-  reversed-twice =
-      rw (header-back .infos-kept, header-back .hops-kept, header-twice, infos-twice, hops-twice, fields-whole)
+-- of any numbers: that they are bytes is not needed
+pub reversed-twice : ReversedTwice
+unfolding reversedPath
+reversed-twice bytes m read =
+    let r = readable bytes read in
+    let header = header-back r in
+    rw (header .infos-kept, header .hops-kept, header-twice r, infos-twice r, hops-twice r, fields-whole r)

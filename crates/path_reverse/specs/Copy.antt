@@ -1,6 +1,6 @@
--- Copying a path of any type into a destination: reading, then 9 unless the destination has the path's length; an empty path disregards it.
+-- A path of any type written into a destination, and copying. Document 01's order for turning and copying: reading, then 9.
 use Prim.Native.Nat.{ℕ}
-use mathlib.Core.Bool.{cond}
+use mathlib.Core.Bool.{cond, _||_}
 use mathlib.Core.List.{List}
 use lib.ListN.{length, take}
 use lib.Dec.{eqb}
@@ -10,14 +10,13 @@ use Rattle.errors.specs.declared.path_error.PathError.{PathError}
 use Rattle.errors.specs.declared.path_error.PathError.the-variants.{Decode, InadequateBufferSize}
 use Rattle.path.specs.Dataplane.{readDataplane, Written}
 
--- a path's bytes into a destination of exactly their length
-unfoldable pub filled : PathMetaHeader → List ℕ → List ℕ → Result PathError Written
-filled m run dst = do
-  require (eqb (length dst) (length run)) InadequateBufferSize
-  ok (record { header = m; bytes = run })
+-- a path's bytes into a destination of exactly their length; an empty path writes nothing and disregards its destination
+unfoldable pub into : ℕ → PathMetaHeader → List ℕ → List ℕ → Result PathError Written
+into type header run dst = do
+  require (eqb type 0 || eqb (length dst) (length run)) InadequateBufferSize
+  ok (record { header = header; bytes = cond (eqb type 0) dst run })
 
 unfoldable pub copy : ℕ → List ℕ → List ℕ → Result PathError Written
 copy type bytes dst = do
   read ← refusing Decode (readDataplane type bytes)
-  cond (eqb type 0) (ok (record { header = read .header; bytes = dst }))
-      (filled (read .header) (take (read .length) bytes) dst)
+  into type (read .header) (take (read .length) bytes) dst

@@ -8,6 +8,7 @@ use path_fields::HopField;
 use path_fields::InfoField;
 use path_meta_header::PathMetaHeader;
 use path_meta_header::Word;
+use wire_encoding::read::part_of;
 use wire_encoding::read::u32_or_zero;
 use wire_encoding::read::u64_or_zero;
 use wire_encoding::write::put_slice;
@@ -21,22 +22,8 @@ ghost use Prim.Native.Nat.{_+_, _*_, _≤_};
 ghost use lib.ListN.{length, drop};
 ghost use lib.Seq.{sets};
 ghost use Rattle.path_meta_header.specs.Encoding.{metaFits, wordOf};
-ghost use Rattle.wire_encoding.specs.Result.{ok};
 ghost use Rattle.path_meta_header.specs.Reversal.{reversedMeta};
-ghost use Rattle.path.specs.Standard.{readPath};
 ghost use Rattle.path_reverse.specs.Reverse as spec;
-
-// Copies the bytes of a path to a destination of exactly their length.
-fn copy_whole(path: StandardPath, run: &[u8], dst: &mut [u8]) -> PathAnswer
-    ensures { λ r. ⌜ r ≡ writtenAnswer (copying.filled (path .«meta_header») (now (run .entry)) (now (dst .entry))) ⌝ }
-    ensures { λ _. ⌜ now (dst .exit) ≡ contents (copying.filled (path .«meta_header») (now (run .entry)) (now (dst .entry))) (now (dst .entry)) ⌝ }
-{
-    if dst.len() == run.len() {
-        put_slice(dst, 0, run);
-        return PathAnswer::accepted(path);
-    }
-    PathAnswer::refused(PathError::InadequateBufferSize)
-}
 
 // Copies the path to a destination of exactly its length. An empty path disregards its destination.
 pub fn copy_to_slice(path: DataplanePath, bytes: &[u8], dst: &mut [u8]) -> PathAnswer
@@ -45,15 +32,17 @@ pub fn copy_to_slice(path: DataplanePath, bytes: &[u8], dst: &mut [u8]) -> PathA
 {
     let read = path.decode(bytes);
     let answer = read.answer;
-    match answer {
-        Decoded::Accepted => {
-            if path.path_type == DataplanePath::EMPTY {
-                return PathAnswer::accepted(read.path);
-            }
-            copy_whole(read.path, &bytes[..read.length], dst)
-        }
-        Decoded::Refused(error) => PathAnswer::not_read(error),
+    if let Decoded::Refused(error) = answer {
+        return PathAnswer::not_read(error);
     }
+    if path.path_type == DataplanePath::EMPTY {
+        return PathAnswer::accepted(read.path);
+    }
+    if dst.len() != read.length {
+        return PathAnswer::refused(PathError::InadequateBufferSize);
+    }
+    put_slice(dst, 0, part_of(bytes, 0, read.length));
+    PathAnswer::accepted(read.path)
 }
 
 // Writes an info field to `dst`, its direction bit flipped.
@@ -137,47 +126,30 @@ fn reverse_fields(meta_header: PathMetaHeader, bytes: &[u8], dst: &mut [u8])
         PathMetaHeader::LENGTH,
         infos,
     );
-    let first_hop = PathMetaHeader::LENGTH + infos * InfoField::LENGTH;
+    let first_hop = meta_header.hop_fields_start();
     reverse_hop_fields(bytes, first_hop, dst, first_hop, hops);
-}
-
-// Writes a path that was read, reversed, to a destination of exactly its length.
-fn reverse_path(meta_header: PathMetaHeader, bytes: &[u8], dst: &mut [u8]) -> PathAnswer
-    requires { ⌜ readPath (now bytes) ≡ ok «meta_header» ⌝ }
-    ensures { λ r. ⌜ r ≡ writtenAnswer (copying.filled (reversedMeta «meta_header») (spec.reversedPath «meta_header» (now (bytes .entry))) (now (dst .entry))) ⌝ }
-    ensures { λ _. ⌜ now (dst .exit) ≡ contents (copying.filled (reversedMeta «meta_header») (spec.reversedPath «meta_header» (now (bytes .entry))) (now (dst .entry))) (now (dst .entry)) ⌝ }
-{
-    if dst.len() == meta_header.encoded_path_length() {
-        reverse_fields(meta_header, bytes, dst);
-        let reversed = meta_header.to_reversed();
-        return PathAnswer::accepted(StandardPath {
-            meta_header: reversed,
-        });
-    }
-    PathAnswer::refused(PathError::InadequateBufferSize)
-}
-
-// Reads a standard path and writes it reversed.
-fn reverse_standard(bytes: &[u8], dst: &mut [u8]) -> PathAnswer
-    ensures { λ r. ⌜ r ≡ writtenAnswer (spec.reverse 1 (now (bytes .entry)) (now (dst .entry))) ⌝ }
-    ensures { λ _. ⌜ now (dst .exit) ≡ contents (spec.reverse 1 (now (bytes .entry)) (now (dst .entry))) (now (dst .entry)) ⌝ }
-{
-    let read = StandardPath::decode(bytes);
-    let answer = read.answer;
-    match answer {
-        Decoded::Accepted => reverse_path(read.path.meta_header, bytes, dst),
-        Decoded::Refused(error) => PathAnswer::not_read(error),
-    }
 }
 
 // Writes the reversed path to a destination of exactly the path's length: a standard path by the draft's Path Reversal,
 // an opaque one as it is. An empty path writes nothing and disregards its destination.
-pub fn reverse_to_slice(path_type: u8, bytes: &[u8], dst: &mut [u8]) -> PathAnswer
-    ensures { λ r. ⌜ r ≡ writtenAnswer (spec.reverse «path_type» (now (bytes .entry)) (now (dst .entry))) ⌝ }
-    ensures { λ _. ⌜ now (dst .exit) ≡ contents (spec.reverse «path_type» (now (bytes .entry)) (now (dst .entry))) (now (dst .entry)) ⌝ }
+pub fn reverse_to_slice(path: DataplanePath, bytes: &[u8], dst: &mut [u8]) -> PathAnswer
+    ensures { λ r. ⌜ r ≡ writtenAnswer (spec.reverse (path .«path_type») (now (bytes .entry)) (now (dst .entry))) ⌝ }
+    ensures { λ _. ⌜ now (dst .exit) ≡ contents (spec.reverse (path .«path_type») (now (bytes .entry)) (now (dst .entry))) (now (dst .entry)) ⌝ }
 {
-    if path_type == DataplanePath::SCION {
-        return reverse_standard(bytes, dst);
+    if path.path_type != DataplanePath::SCION {
+        return copy_to_slice(path, bytes, dst);
     }
-    copy_to_slice(DataplanePath::new(path_type), bytes, dst)
+    let read = StandardPath::decode(bytes);
+    let answer = read.answer;
+    if let Decoded::Refused(error) = answer {
+        return PathAnswer::not_read(error);
+    }
+    let meta_header = read.path.meta_header;
+    if dst.len() != meta_header.encoded_path_length() {
+        return PathAnswer::refused(PathError::InadequateBufferSize);
+    }
+    reverse_fields(meta_header, bytes, dst);
+    PathAnswer::accepted(StandardPath {
+        meta_header: meta_header.to_reversed(),
+    })
 }

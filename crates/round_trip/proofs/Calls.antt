@@ -1,27 +1,26 @@
 -- What the calls answer on a path that can be moved: it is read, it is moved before its last hop field and refused there, it is walked
--- with any limit, and it is turned into a destination of its length and no other.
+-- with any limit, and it is reversed into a destination of its length and no other.
 -- Assumes nothing.
-use Prim.Native.Nat.{ℕ, _+_, _≤_, _<_}
-use mathlib.Core.Path.{_≡_, _∙_}
+use Prim.Native.Nat.{ℕ, _+_, _<_}
+use mathlib.Core.Path.{_≡_, sym, _∙_}
 use mathlib.Core.List.{List}
 use native.Mathlib.Omega.{arith}
 use lib.ListN.{length}
-use borrow.Author.Tests.{lt-ltb, le-ltb, eq-eqb, ne-eqb}
+use borrow.Author.Tests.{eq-eqb, ne-eqb}
 use Rattle.wire_encoding.specs.Result.{ok, refused}
 use Rattle.path_meta_header.specs.MetaHeader.{hopFieldsCount, pathLength}
 use Rattle.path_meta_header.specs.declared.PathMetaHeader.{PathMetaHeader}
 use Rattle.path_meta_header.specs.Reversal.{reversedMeta}
 use Rattle.errors.specs.declared.path_error.PathError.the-variants.{AtLastHopField, InadequateBufferSize}
-use Rattle.path.specs.Dataplane.{standard}
+use Rattle.path.specs.Dataplane.{standard, metaHeaderOf}
 use Rattle.path.proofs.Reading.{standard-readable, standard-read, path-read}
-use Rattle.path_reverse.specs.Copy.{filled}
 use Rattle.path_reverse.specs.Reverse.{reversedPath, reverse}
-use Rattle.path_reverse.proofs.Reverse.{length-reversedPath}
-use Rattle.path_moves.specs.Moves.{iterate, move, moved, notLast, walkMoves, walked}
+use Rattle.path_reverse.proofs.Reverse.{reverse-exact, reverse-other}
+use Rattle.path_moves.specs.Moves.{isLast, iterate, move, moved, walkMoves, walked}
 use Rattle.path_moves.proofs.Sums.{Made, walk-made}
 use Rattle.path_moves.specs.Rules.{movable}
 use Rattle.path_moves.proofs.Rules.{known-movable}
-use Rattle.round_trip.specs.RoundTrip.{metaHeaderOf, Begun}
+use Rattle.round_trip.specs.RoundTrip.{Begun}
 use Rattle.round_trip.proofs.Mirror.{Path}
 
 -- the path begun with
@@ -48,12 +47,12 @@ module _ (x : List ℕ) (m : PathMetaHeader) (path : Path x m) where
   -- A MOVE
 
   pub move-accepted : m .«current_hop_field» + 1 < hopFieldsCount m → move 1 x ≡ ok (moved 1 x)
-  unfolding move moved notLast
-  move-accepted l = rw (able, lt-ltb (m .«current_hop_field» + 1) (hopFieldsCount m) l)
+  unfolding move moved isLast
+  move-accepted l = rw (able, ne-eqb (m .«current_hop_field» + 1) (hopFieldsCount m) (λ e. omega arith))
 
-  pub move-refused : hopFieldsCount m ≤ m .«current_hop_field» + 1 → move 1 x ≡ refused AtLastHopField
-  unfolding move notLast
-  move-refused l = rw (able, le-ltb (m .«current_hop_field» + 1) (hopFieldsCount m) l)
+  pub move-refused : hopFieldsCount m ≡ m .«current_hop_field» + 1 → move 1 x ≡ refused AtLastHopField
+  unfolding move isLast
+  move-refused l = rw (able, eq-eqb (m .«current_hop_field» + 1) (hopFieldsCount m) (sym l))
 
   -- A WALK
 
@@ -64,13 +63,11 @@ module _ (x : List ℕ) (m : PathMetaHeader) (path : Path x m) where
   unfolding walked
   walked-moves limit = rw (walk-accepted limit .is) (walk-accepted limit .left)
 
-  -- A TURN
+  -- A REVERSAL
 
   module _ (dst : List ℕ) where
-    pub turn-accepted : length dst ≡ pathLength m → reverse 1 x dst ≡ ok (record { header = reversedMeta m; bytes = reversedPath m x })
-    unfolding reverse filled
-    turn-accepted e = rw (path-read x m (path .known .path), length-reversedPath m x (path .known .path .whole), eq-eqb (length dst) (pathLength m) e)
+    pub reverse-accepted : length dst ≡ pathLength m → reverse 1 x dst ≡ ok (record { header = reversedMeta m; bytes = reversedPath m x })
+    reverse-accepted = reverse-exact x dst (path-read x m (path .known .path))
 
-    pub turn-refused : (length dst ≡ pathLength m → ⊥) → reverse 1 x dst ≡ refused InadequateBufferSize
-    unfolding reverse filled
-    turn-refused n = rw (path-read x m (path .known .path), length-reversedPath m x (path .known .path .whole), ne-eqb (length dst) (pathLength m) n)
+    pub reverse-refused : (length dst ≡ pathLength m → ⊥) → reverse 1 x dst ≡ refused InadequateBufferSize
+    reverse-refused = reverse-other x dst (path-read x m (path .known .path))

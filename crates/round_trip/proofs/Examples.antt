@@ -1,162 +1,49 @@
--- Worked examples, computed: accumulators by a path alone, a reply's first bytes, what a list of events leaves, what is met on the
--- way back; and that the premises can be met.
+-- The worked examples hold, by computing each; and the premises can be met, for each of them can be asked of a path and answered.
 -- Assumes nothing.
-use Prim.Native.Nat.{ℕ, zero, suc, _+_, _*_, _<_}
+use Prim.Native.Nat.{ℕ, zero, suc, _<_}
 use mathlib.Core.Path.{_≡_, refl, ap}
 use mathlib.Core.Bool.{Bool, true, false, cond}
-use mathlib.Core.List.{List, [], _∷_, _++_, flatten}
-use mathlib.Core.Option.{Option, none, some}
+use mathlib.Core.List.{List, [], _∷_, flatMap}
 use native.Mathlib.Omega.{arith}
 use lib.Dec.{ltb, leb, eqb}
-use lib.ListN.{length, getD, take, replicate}
+use lib.ListN.{length, getD}
 use borrow.Author.Tests.{ltb-true, leb-true, eqb-true}
-use Rattle.wire_encoding.specs.BigEndian.{bigEndian, bytesOf, room}
+use Rattle.wire_encoding.specs.BigEndian.{bigEndian, bytesOf, room, records}
 use Rattle.wire_encoding.specs.Bits.{withBit}
+use Rattle.path_fields.specs.Fields as fields
 use Rattle.path_meta_header.specs.MetaHeader as meta
 use Rattle.path_meta_header.specs.Reversal as reversal
 use Rattle.path_meta_header.specs.Encoding as encoding
-use Rattle.path_fields.specs.Fields as fields
-use Rattle.path_fields.specs.declared.Interface.the-variants.{Id}
 use Rattle.errors.specs.Errors.{answerOf}
 use Rattle.errors.proofs.Errors.{answer-ok}
 use Rattle.errors.specs.declared.path_error.Answer.{Answer}
 use Rattle.errors.specs.declared.path_error.Answer.the-variants.{Accepted}
 use Rattle.path.specs.Standard as standard
 use Rattle.path.specs.Dataplane as dataplane
+use Rattle.path.specs.Dataplane.{metaHeaderOf}
 use Rattle.path_reverse.specs.Copy as copy
+use Rattle.path_reverse.specs.Reverse as reverse
 use Rattle.path_moves.specs.Moves as moves
 use Rattle.path_moves.specs.Rules as rules
-use Rattle.path_reverse.specs.Reverse as reverse
 use Rattle.round_trip.specs.RoundTrip as round
-use Rattle.round_trip.specs.RoundTrip.{
-  Begun,
-  Event,
-  sending,
-  single-move,
-  walk,
-  doubling,
-  arrival,
-  Packet,
-  State,
-  accumulatorBy,
-  after,
-  begin,
-  first,
-  metaHeaderOf,
-  hopCount,
-  meets,
-  other,
-  reply,
-}
+use Rattle.round_trip.specs.RoundTrip.{Begun, hopCount}
+use Rattle.round_trip.specs.Examples as examples
+use Rattle.round_trip.specs.Examples.{Computed, PremisesMet, single, double, triple, peered, shortest, longest}
 
--- THE PATHS
-
--- an info field: flags, reserved, accumulator, time
-info : ℕ → ℕ → ℕ → ℕ → List ℕ
-info flags reserved high low = flags ∷ reserved ∷ high ∷ low ∷ 0x00 ∷ 0x00 ∷ 0x00 ∷ 0x01 ∷ []
-
--- hop field n: interfaces 2n + 1 and 2n + 2, and a code of its own
-hop : ℕ → List ℕ
-hop n =
-    0x00 ∷ 0x00 ∷ 0x00 ∷ (2 * n + 1) ∷ 0x00 ∷ (2 * n + 2) ∷ (0xA0 + n) ∷ (0x0B + n) ∷ (0x10 + n) ∷ (0x20 + n) ∷ (0x30 + n) ∷ (0x40 + n) ∷ []
-
-hops : ℕ → ℕ → List ℕ
-hops from zero = []
-hops from (suc n) = hop from ++ hops (suc from) n
-
--- one segment of three hop fields
-pub single : List ℕ
-single = (0x00 ∷ 0x00 ∷ 0x30 ∷ 0x00 ∷ []) ++ info 0x01 0x00 0x11 0x11 ++ hops 0 3
-
--- two, of two and three, with unused flags and reserved bytes set
-pub double : List ℕ
-double = (0x00 ∷ 0x00 ∷ 0x20 ∷ 0xC0 ∷ []) ++ info 0xA4 0x5A 0x11 0x11 ++ info 0xA5 0x5A 0x22 0x22 ++ hops 0 5
-
--- three, of two each
-pub triple : List ℕ
-triple = (0x00 ∷ 0x00 ∷ 0x20 ∷ 0x82 ∷ []) ++ info 0x00 0x00 0x11 0x11 ++ info 0x00 0x00 0x22 0x22 ++ info 0x01 0x00 0x33 0x33 ++ hops 0 6
-
--- two of three each, peering on both
-pub peered : List ℕ
-peered = (0x00 ∷ 0x00 ∷ 0x30 ∷ 0xC0 ∷ []) ++ info 0x02 0x00 0x11 0x11 ++ info 0x03 0x00 0x22 0x22 ++ hops 0 6
-
--- one hop field, and sixty-four
-pub shortest : List ℕ
-shortest = (0x00 ∷ 0x00 ∷ 0x10 ∷ 0x00 ∷ []) ++ info 0x00 0x00 0x11 0x11 ++ hops 0 1
-
-pub longest : List ℕ
-longest = (0x00 ∷ 0x03 ∷ 0xF0 ∷ 0x40 ∷ []) ++ info 0x00 0x00 0x11 0x11 ++ info 0x01 0x00 0x22 0x22 ++ hops 0 64
-
--- COMPUTED
-
-accumulators : List ℕ
-accumulators =
-    accumulatorBy peered 0 ∷ accumulatorBy peered 1 ∷ accumulatorBy peered 2 ∷ accumulatorBy peered 3 ∷ accumulatorBy peered 4 ∷ accumulatorBy peered 5 ∷ []
-
-by-alone : accumulators ≡ 0x1111 ∷ 0xB01D ∷ 0xB01D ∷ 0x2222 ∷ 0x2222 ∷ 0x862D ∷ []
-unfolding bigEndian room meta.nthField meta.metaOf meta.infoFieldsCount meta.hopFieldsCount meta.segmentOf
-    meta.firstHopField meta.pathLength meta.lengthsValid meta.hopValid meta.infoValid meta.checked
-    meta.readMeta fields.infoFieldAt standard.readPath
-    dataplane.readDataplane dataplane.standard rules.ownerOf rules.spared moves.changeInside
-    round.metaHeaderOf round.accumulatorAfter round.accumulatorBy accumulators peered info hop hops
-by-alone = refl
-
--- its reply's header and info fields
-reply-begins : take 20 (reply peered)
-    ≡ 0x00 ∷ 0x00 ∷ 0x30 ∷ 0xC0 ∷ 0x02 ∷ 0x00 ∷ 0x86 ∷ 0x2D ∷ 0x00 ∷ 0x00 ∷ 0x00 ∷ 0x01 ∷ 0x03 ∷ 0x00 ∷ 0xB0 ∷ 0x1D ∷ 0x00 ∷ 0x00 ∷ 0x00 ∷ 0x01 ∷ []
-unfolding bigEndian bytesOf room withBit meta.nthField meta.metaOf meta.infoFieldsCount meta.hopFieldsCount
-    meta.segmentOf meta.pathLength meta.lengthsValid meta.hopValid meta.infoValid meta.checked
-    meta.readMeta encoding.wordOf reversal.atStart reversal.reversedLengths reversal.reversedMeta
-    standard.readPath dataplane.readDataplane dataplane.standard
-    copy.filled copy.copy
-    rules.ownerOf rules.spared moves.changeInside moves.positionOf moves.moveFrom moves.applied moves.takesIn moves.moveBytes rules.peerings
-    rules.peeringAllowed rules.stateOf rules.movable moves.notLast moves.move moves.moved moves.walkMoves moves.walk
-    moves.walked flatten reverse.records reverse.reversedRecords reverse.flipped reverse.same reverse.reversedPath reverse.reverse round.turned round.metaHeaderOf
-    round.reply peered info hop hops
-reply-begins = refl
-
--- a list with an arrival before N − 1, one into 91 bytes, a limit above what is left, and a doubled packet that stays behind
-travels : List Event
-travels =
-    sending first ∷ walk 0 2 ∷ doubling 0 ∷ arrival 0 (replicate 92 0) ∷ walk 0 9 ∷ arrival 0 (replicate 91 0) ∷ arrival 0 (replicate 92 0)
-    ∷ single-move 0 ∷ sending other ∷ walk 1 1 ∷ []
-
-counts : List Packet → List ℕ
-counts [] = []
-counts (q ∷ packets) = q .count ∷ counts packets
-
-begins : Option (List ℕ) → List ℕ
-begins none = []
-begins (some path) = take 14 path
-
--- the counts of the packets on the way and of those taken, and the first bytes that the other end holds
-leaves : State → List ℕ
-leaves s = counts (s .packets) ++ (counts (s .taken) ++ begins (s .other-holds))
-
-travelled : leaves (after (begin peered) travels)
-    ≡ 3 ∷ 1 ∷ 5 ∷ 0x00 ∷ 0x00 ∷ 0x30 ∷ 0xC0 ∷ 0x02 ∷ 0x00 ∷ 0x86 ∷ 0x2D ∷ 0x00 ∷ 0x00 ∷ 0x00 ∷ 0x01 ∷ 0x03 ∷ 0x00 ∷ []
-unfolding bigEndian bytesOf room withBit meta.nthField meta.metaOf meta.infoFieldsCount meta.hopFieldsCount
-    meta.segmentOf meta.pathLength meta.lengthsValid meta.hopValid meta.infoValid meta.checked
-    meta.readMeta encoding.wordOf reversal.atStart reversal.reversedLengths reversal.reversedMeta
-    standard.readPath dataplane.readDataplane dataplane.standard
-    copy.filled copy.copy
-    rules.ownerOf rules.spared moves.changeInside moves.positionOf moves.moveFrom moves.applied moves.takesIn moves.moveBytes rules.peerings
-    rules.peeringAllowed rules.stateOf rules.movable moves.notLast moves.move moves.moved moves.walkMoves moves.walk
-    moves.walked flatten reverse.records reverse.reversedRecords reverse.flipped reverse.reversedPath reverse.reverse round.turned round.metaHeaderOf moves.atPosition moves.movedMeta
-    reverse.same
+pub computed : Computed
+unfolding bigEndian bytesOf room withBit fields.infoFieldAt fields.hopFieldAt fields.interfaceOf fields.ingressInterface fields.egressInterface
+    meta.nthField meta.metaOf meta.infoFieldsCount meta.hopFieldsCount meta.segmentOf meta.firstHopField meta.pathLength meta.lengthsValid
+    meta.hopValid meta.infoValid meta.checked meta.readMeta encoding.wordOf reversal.atStart reversal.reversedLengths reversal.reversedMeta
+    standard.readPath dataplane.readDataplane dataplane.standard dataplane.metaHeaderOf copy.into
+    flatMap records reverse.reversedRecords reverse.flipped reverse.same reverse.reversedPath reverse.reversedBytes reverse.reverse
+    rules.ownerOf rules.spared rules.somePeering rules.peeringPath rules.peeringAllowed rules.movable
+    moves.takesIn moves.moveBytes moves.isLast moves.move moves.moved moves.walkMoves moves.walk moves.walked
+    moves.infoOf moves.accumulatorAfter moves.accumulatorBy
     round.begin round.byEnd round.onTheWay round.onPacket round.sent round.packetMoved round.packetWalked round.without
-    round.atLast round.holding round.arrived round.step round.after travels counts begins leaves peered info hop hops
-travelled = refl
-
--- one move back: hop field 4, its accumulator, its interfaces exchanged
-met-back : meets peered first 1 ≡ record { field = hop 4; accumulator = 0x2222; entry = Id 10; exit = Id 9 }
-unfolding bigEndian room meta.nthField meta.metaOf meta.infoFieldsCount meta.hopFieldsCount meta.segmentOf
-    meta.firstHopField meta.pathLength meta.lengthsValid meta.hopValid meta.infoValid meta.checked
-    meta.readMeta fields.infoFieldAt fields.hopFieldAt fields.interfaceOf fields.ingressInterface fields.egressInterface
-    standard.readPath dataplane.readDataplane dataplane.standard
-    rules.ownerOf rules.spared moves.changeInside round.metaHeaderOf round.accumulatorAfter round.accumulatorBy round.infoOf round.meeting
-    round.byPath round.exchanged round.byEnd round.meets peered info hop hops
-met-back = refl
+    round.atLast round.holding round.arrived round.step round.after round.meeting round.byPath round.exchanged round.meets
+    round.reversedInto round.reply
+    examples.info examples.hop examples.hops examples.peered examples.travels examples.begins examples.leaves
+computed = (refl, refl, refl, refl)
 
 -- THE PREMISES CAN BE MET
 
@@ -208,7 +95,7 @@ every-byte (v ∷ l) e (suc i) = every-byte l (go (ltb v 256) e) i
     go false e = let z : _≡_ {A = ℕ} 0 1 = cc in absurd (omega arith)
 
 begun : (b : List ℕ) → asked b ≡ given → Begun b
-unfolding asked given round.metaHeaderOf
+unfolding asked given dataplane.metaHeaderOf
 begun b e =
     record {
       bytes = every-byte b (ap (λ (a : Asked). a .bytes) e);
@@ -227,27 +114,21 @@ all-given : (asked single ≡ given)
     × (asked peered ≡ given)
     × (asked shortest ≡ given)
     × (asked longest ≡ given)
-unfolding bigEndian room meta.nthField meta.metaOf meta.infoFieldsCount meta.hopFieldsCount meta.segmentOf
-    meta.pathLength meta.lengthsValid meta.hopValid meta.infoValid meta.checked
-    meta.readMeta standard.readPath dataplane.readDataplane
-    dataplane.standard rules.peerings rules.peeringAllowed round.metaHeaderOf single double triple peered shortest longest info hop
-    hops asked given allBytes
+unfolding bigEndian room fields.infoFieldAt
+    meta.nthField meta.metaOf meta.infoFieldsCount meta.hopFieldsCount meta.segmentOf meta.pathLength meta.lengthsValid
+    meta.hopValid meta.infoValid meta.checked meta.readMeta
+    standard.readPath dataplane.readDataplane dataplane.standard dataplane.metaHeaderOf
+    rules.somePeering rules.peeringPath rules.peeringAllowed
+    examples.info examples.hop examples.hops single double triple peered shortest longest asked given allBytes
 all-given = (refl, refl, refl, refl, refl, refl)
 
-pub begun-single : Begun single
-begun-single = begun single (all-given .0)
-
-pub begun-double : Begun double
-begun-double = begun double (all-given .1)
-
-pub begun-triple : Begun triple
-begun-triple = begun triple (all-given .2)
-
-pub begun-peered : Begun peered
-begun-peered = begun peered (all-given .3)
-
-pub begun-shortest : Begun shortest
-begun-shortest = begun shortest (all-given .4)
-
-pub begun-longest : Begun longest
-begun-longest = begun longest (all-given .5)
+pub premises-met : PremisesMet
+premises-met =
+    let all = all-given in (
+      begun single (all .0),
+      begun double (all .1),
+      begun triple (all .2),
+      begun peered (all .3),
+      begun shortest (all .4),
+      begun longest (all .5),
+    )

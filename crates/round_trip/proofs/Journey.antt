@@ -10,13 +10,15 @@ use native.Mathlib.Omega.{arith}
 use lib.Dec.{eqb}
 use lib.ListN.{length, set, getElem?}
 use borrow.Author.Tests.{eqb-true, eqb-false}
+use Rattle.wire_encoding.proofs.Lists.{by-lt}
 use Rattle.path_meta_header.specs.MetaHeader.{hopFieldsCount, pathLength}
 use Rattle.path_meta_header.specs.declared.PathMetaHeader.{PathMetaHeader}
 use Rattle.path_moves.specs.Moves as moves
-use Rattle.wire_encoding.specs.Result.{told}
+use Rattle.wire_encoding.specs.Result.{mapped, orElse}
+use Rattle.path.specs.Dataplane.{Written, metaHeaderOf}
 use Rattle.path_reverse.specs.Reverse.{reverse}
 use Rattle.round_trip.specs.RoundTrip.{
-  turned,
+  reversedInto,
   End,
   first,
   other,
@@ -37,7 +39,6 @@ use Rattle.round_trip.specs.RoundTrip.{
   packetMoved,
   packetWalked,
   without,
-  metaHeaderOf,
   hopCount,
   pointer,
   atLast,
@@ -54,17 +55,16 @@ use Rattle.round_trip.specs.RoundTrip.{
   reached,
   Claim,
 }
-use Rattle.round_trip.proofs.Fields.{by-lt}
 use Rattle.round_trip.proofs.Mirror.{Path}
-use Rattle.round_trip.proofs.Meetings.{header-read}
+use Rattle.round_trip.proofs.Meetings.{path-header}
 use Rattle.round_trip.proofs.Calls.{
   read-accepted,
   move-accepted,
   move-refused,
   walk-accepted,
   walked-moves,
-  turn-accepted,
-  turn-refused,
+  reverse-accepted,
+  reverse-refused,
 }
 use Rattle.round_trip.proofs.Packets.{
   track,
@@ -78,8 +78,8 @@ use Rattle.round_trip.proofs.Packets.{
   walk-inside,
   track-walked,
   track-length,
-  turned-out,
-  turned-back,
+  reversed-out,
+  reversed-back,
   reply-track,
 }
 
@@ -139,7 +139,7 @@ module _ (b : List ℕ) (g : Begun b) where
     path = subst (λ (x : List ℕ). Path x m) (sym (t .is)) (track-path b g (q .to) (q .count) (t .below))
 
     header : metaHeaderOf (q .bytes) ≡ m
-    header = header-read (q .bytes) m path
+    header = path-header (q .bytes) m path
 
     hop : m .«current_hop_field» ≡ q .count
     hop = track-pointer b g (q .to) (q .count) (t .below)
@@ -164,8 +164,9 @@ module _ (b : List ℕ) (g : Begun b) where
     unfolding packetMoved
     moved-tracked =
         by-lt (q .count + 1) N
-        (λ l. rw (move-accepted (q .bytes) m path (omega (arith, hop, hops))) (record { below = l; is = ap (moves.moved 1) (t .is) ∙ track-moved b g (q .to) (q .count) l }))
-        (λ l. rw (move-refused (q .bytes) m path (omega (arith, hop, hops))) t)
+        (λ l. rw (move-accepted (q .bytes) m path (omega (arith, hop, hops)))
+        (record { below = l; is = ap (moves.moved 1) (t .is) ∙ track-moved b g (q .to) (q .count) l }))
+        (λ l. rw (move-refused (q .bytes) m path (omega (arith, hop, hops, t .below))) t)
 
     walked-tracked : (limit : ℕ) → Each b (packetWalked limit q)
     unfolding packetWalked
@@ -183,7 +184,7 @@ module _ (b : List ℕ) (g : Begun b) where
 
     -- where it arrives
     last-count : atLast (q .bytes) ≡ true → q .count + 1 ≡ N
-    unfolding atLast
+    unfolding atLast moves.isLast
     last-count e =
         omega (arith, eqb-true (pointer (q .bytes) + 1) (hopCount (q .bytes)) e, at-hop, ap hopFieldsCount header ∙ hops)
 
@@ -204,6 +205,10 @@ module _ (b : List ℕ) (g : Begun b) where
   unfolding onTheWay
   on-the-way s v l h = record { packets = h; counts = v .counts; first-end = v .first-end; other-end = v .other-end }
 
+  -- one packet replaced
+  replaced : (s : State) → Holds s → (i : ℕ) (q : Packet) → Each b q → Holds (onTheWay s (set (s .packets) i q))
+  replaced s v i q t = on-the-way s v (set (s .packets) i q) (all-set (Each b) (s .packets) i q (v .packets) t)
+
   sends : (s : State) → Holds s → (to : End) (x : List ℕ) → Tracked b to x 0 → Holds (sent s to (some x))
   unfolding sent
   sends s v to x t =
@@ -213,7 +218,8 @@ module _ (b : List ℕ) (g : Begun b) where
   first-sends : (s : State) → Holds s → Holds (sent s other (s .first-holds))
   unfolding track
   first-sends s v =
-      subst (λ (o : Option (List ℕ)). Holds (sent s other o)) (sym (v .first-end)) (sends s v other b (record { below = some-hop b g; is = refl }))
+      subst (λ (o : Option (List ℕ)). Holds (sent s other o)) (sym (v .first-end))
+      (sends s v other b (record { below = some-hop b g; is = refl }))
 
   other-sends : (s : State) → Holds s → Holds (sent s first (s .other-holds))
   unfolding sent
@@ -235,38 +241,41 @@ module _ (b : List ℕ) (g : Begun b) where
 
   -- the end takes the packet in
   takes-in : (s : State) → Holds s → (i : ℕ) (to : End) (x : List ℕ) (c : ℕ) → Tracked b to x c → c + 1 ≡ hopCount b
-      → (dst : List ℕ) → length dst ≡ length b → Holds (holding s i (record { bytes = x; to = to; count = c }) (turned x dst))
+      → (dst : List ℕ) → length dst ≡ length b → Holds (holding s i (record { bytes = x; to = to; count = c }) (reversedInto x dst))
   unfolding holding byEnd All reached
   takes-in s v i other x c t last dst e =
       record {
         packets = all-without (Each b) (s .packets) i (v .packets);
         counts = (last, v .counts);
         first-end = v .first-end;
-        other-end = ap {B = Option (List ℕ)} some (ap (λ (y : List ℕ). turned y dst) (t .is) ∙ turned-out b g c last dst e ∙ sym (reply-track b g));
+        other-end =
+            ap {B = Option (List ℕ)} some
+            (ap (λ (y : List ℕ). reversedInto y dst) (t .is) ∙ reversed-out b g c last dst e ∙ sym (reply-track b g));
       }
   takes-in s v i first x c t last dst e =
       record {
         packets = all-without (Each b) (s .packets) i (v .packets);
         counts = (last, v .counts);
-        first-end = ap {B = Option (List ℕ)} some (ap (λ (y : List ℕ). turned y dst) (t .is) ∙ turned-back b g c last dst e);
+        first-end = ap {B = Option (List ℕ)} some (ap (λ (y : List ℕ). reversedInto y dst) (t .is) ∙ reversed-back b g c last dst e);
         other-end = v .other-end;
       }
 
   arrives : (s : State) → Holds s → (i : ℕ) (dst : List ℕ) (q : Packet) → Each b q → Holds (arrived s i dst q)
-  unfolding arrived turned
+  unfolding arrived reversedInto
   arrives s v i dst q t = go (atLast (q .bytes)) refl (eqb (length dst) (length b)) refl
     where
       long : length b ≡ pathLength (m q t)
       long = track-length b g (q .to) (q .count) (t .below)
 
       go : (a : Bool) → atLast (q .bytes) ≡ a → (r : Bool) → eqb (length dst) (length b) ≡ r
-          → Holds (cond a (told (reverse 1 (q .bytes) dst) (λ turn. holding s i q (turn .bytes)) (λ error. s)) s)
+          → Holds (cond a (orElse (mapped (λ (written : Written). holding s i q (written .bytes)) (reverse 1 (q .bytes) dst)) s) s)
       go false e r f = v
       go true e true f =
           let size : length dst ≡ length b = eqb-true (length dst) (length b) f in
-          let turn = turn-accepted (q .bytes) (m q t) (path q t) dst (size ∙ long) in
-          rw turn (rw turn at (takes-in s v i (q .to) (q .bytes) (q .count) t (last-count q t e) dst size))
-      go true e false f = rw (turn-refused (q .bytes) (m q t) (path q t) dst (λ size. eqb-false (length dst) (length b) f (size ∙ sym long))) v
+          let accepted = reverse-accepted (q .bytes) (m q t) (path q t) dst (size ∙ long) in
+          rw accepted (rw accepted at (takes-in s v i (q .to) (q .bytes) (q .count) t (last-count q t e) dst size))
+      go true e false f =
+          rw (reverse-refused (q .bytes) (m q t) (path q t) dst (λ size. eqb-false (length dst) (length b) f (size ∙ sym long))) v
 
   -- THE EVENTS
 
@@ -275,11 +284,10 @@ module _ (b : List ℕ) (g : Begun b) where
   on-step s v (sending first) = first-sends s v
   on-step s v (sending other) = other-sends s v
   on-step s v (single-move i) =
-      on-packet s i (λ q. onTheWay s (set (s .packets) i (packetMoved q))) v
-      (λ q t. on-the-way s v (set (s .packets) i (packetMoved q)) (all-set (Each b) (s .packets) i (packetMoved q) (v .packets) (moved-tracked q t)))
+      on-packet s i (λ q. onTheWay s (set (s .packets) i (packetMoved q))) v (λ q t. replaced s v i (packetMoved q) (moved-tracked q t))
   on-step s v (walk i limit) =
       on-packet s i (λ q. onTheWay s (set (s .packets) i (packetWalked limit q))) v
-      (λ q t. on-the-way s v (set (s .packets) i (packetWalked limit q)) (all-set (Each b) (s .packets) i (packetWalked limit q) (v .packets) (walked-tracked q t limit)))
+      (λ q t. replaced s v i (packetWalked limit q) (walked-tracked q t limit))
   on-step s v (loss i) = on-the-way s v (without i (s .packets)) (all-without (Each b) (s .packets) i (v .packets))
   on-step s v (doubling i) =
       on-packet s i (λ q. onTheWay s (s .packets ++ (q ∷ []))) v
@@ -297,7 +305,9 @@ module _ (b : List ℕ) (g : Begun b) where
       let v : Holds s = on-events (begin b) at-first events in
       record {
         standing = all-map (Each b) (Stands b) stands (s .packets) (v .packets);
-        walking = λ limit. all-map (Each b) (λ q. Stands b (packetWalked limit q)) (λ q t. stands (packetWalked limit q) (walked-tracked q t limit)) (s .packets) (v .packets);
+        walking =
+            λ limit. all-map (Each b) (λ q. Stands b (packetWalked limit q))
+            (λ q t. stands (packetWalked limit q) (walked-tracked q t limit)) (s .packets) (v .packets);
         counts = v .counts;
         first-end = v .first-end;
         other-end = v .other-end;

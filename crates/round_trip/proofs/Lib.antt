@@ -1,7 +1,5 @@
-pub mod Xor
 pub mod Fields
-pub mod Shape
-pub mod Turned
+pub mod Reversed
 pub mod Mirror
 pub mod Moved
 pub mod Back

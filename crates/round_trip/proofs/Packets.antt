@@ -1,5 +1,5 @@
 -- Every packet's bytes by its end and its count p: to the other end they are B moved p times, and to the first sender the mirror image
--- of B moved N − 1 − p times; a move, a walk and a turn lead from one to the next.
+-- of B moved N − 1 − p times; a move, a walk and a reversal lead from one to the next.
 -- Assumes nothing.
 use Prim.Native.Nat.{ℕ, zero, suc, _+_, _-_, _<_}
 use mathlib.Core.Path.{_≡_, refl, sym, ap, ap₂, _∙_}
@@ -12,26 +12,26 @@ use Rattle.path_meta_header.specs.MetaHeader.{infoFieldsCount, hopFieldsCount, 
 use Rattle.path_meta_header.specs.declared.PathMetaHeader.{PathMetaHeader}
 use Rattle.path_moves.specs.Moves.{atPosition, iterate, moveBytes, moveFrom, moved, movedMeta, positionOf, walked, walkMoves}
 use Rattle.path_moves.proofs.Moves.{moved-is}
+use Rattle.path.specs.Dataplane.{metaHeaderOf}
 use Rattle.round_trip.specs.RoundTrip.{
-  turned,
+  reversedInto,
   End,
   first,
   other,
   byEnd,
-  metaHeaderOf,
   hopCount,
   met,
   Begun,
   meets,
   reply,
 }
-use Rattle.round_trip.proofs.Shape.{turnedMeta, mirrorMeta}
-use Rattle.round_trip.proofs.Mirror.{Path, mirror, hop-below, mirror-infos, mirror-hops, mirror-twice, path-mirror, reversed-mirror}
+use Rattle.round_trip.specs.Mirror.{reversedMetaAt, mirrorMeta, mirror}
+use Rattle.round_trip.proofs.Mirror.{Path, hop-below, mirror-infos, mirror-hops, mirror-twice, path-mirror, reversedPath-mirror}
 use Rattle.round_trip.proofs.Moved.{can-move, path-moved}
 use Rattle.round_trip.proofs.Back.{back-before-last, moved-back}
 use Rattle.round_trip.proofs.Onward.{standingAt, Onward, onward}
 use Rattle.round_trip.proofs.Meetings.{met-onward, met-mirror}
-use Rattle.round_trip.proofs.Calls.{path-begun, walked-moves, turn-accepted}
+use Rattle.round_trip.proofs.Calls.{path-begun, walked-moves, reverse-accepted}
 
 -- the bytes of a packet to an end, after so many moves
 unfoldable pub track : List ℕ → End → ℕ → List ℕ
@@ -69,7 +69,7 @@ module _ (b : List ℕ) (g : Begun b) where
       path-mirror (iterate q (moved 1) b) (standingAt m q) (at q (omega arith) .path)
 
   pub track-pointer : (to : End) (p : ℕ) → p < hopCount b → trackMeta b to p .«current_hop_field» ≡ p
-  unfolding trackMeta standingAt atPosition mirrorMeta turnedMeta hopFieldsCount
+  unfolding trackMeta standingAt atPosition mirrorMeta reversedMetaAt hopFieldsCount
   track-pointer other p l = refl
   track-pointer first p l = omega arith
 
@@ -138,7 +138,8 @@ module _ (b : List ℕ) (g : Begun b) where
   unfolding walkMoves
   walk-inside to p l limit = omega (arith, track-pointer to p l, track-hops to p l)
 
-  pub track-walked : (to : End) (p : ℕ) → p < hopCount b → (limit : ℕ) → walked 1 (track b to p) limit ≡ track b to (p + walkMoves (trackMeta b to p) limit)
+  pub track-walked : (to : End) (p : ℕ) → p < hopCount b → (limit : ℕ)
+      → walked 1 (track b to p) limit ≡ track b to (p + walkMoves (trackMeta b to p) limit)
   track-walked to p l limit =
       let n : ℕ = walkMoves (trackMeta b to p) limit in
       walked-moves (track b to p) (trackMeta b to p) (track-path to p l) limit ∙ track-moves to p n (walk-inside to p l limit)
@@ -150,7 +151,7 @@ module _ (b : List ℕ) (g : Begun b) where
       let moves : 0 + walkMoves (trackMeta b to 0) p ≡ p = omega (arith, track-pointer to 0 some-hop, track-hops to 0 some-hop) in
       track-walked to 0 some-hop p ∙ ap (track b to) moves
 
-  -- A TURN
+  -- A REVERSAL
 
   pub track-infos : (to : End) (p : ℕ) → p < hopCount b → infoFieldsCount (trackMeta b to p) ≡ infoFieldsCount (metaHeaderOf b)
   unfolding trackMeta standingAt atPosition infoFieldsCount
@@ -164,28 +165,28 @@ module _ (b : List ℕ) (g : Begun b) where
   track-length to p l = omega (arith, path .exact, track-hops to p l, track-infos to p l)
 
   -- at the last hop field, into a destination of B's length
-  turned-mirror : (to : End) (p : ℕ) → p + 1 ≡ hopCount b → (dst : List ℕ) → length dst ≡ length b
-      → turned (track b to p) dst ≡ mirror (trackMeta b to p) (track b to p)
-  unfolding turned
-  turned-mirror to p last dst e =
+  reversed-mirror : (to : End) (p : ℕ) → p + 1 ≡ hopCount b → (dst : List ℕ) → length dst ≡ length b
+      → reversedInto (track b to p) dst ≡ mirror (trackMeta b to p) (track b to p)
+  unfolding reversedInto
+  reversed-mirror to p last dst e =
       let l : p < N = omega arith in
       let x : List ℕ = track b to p in
       let mx : PathMetaHeader = trackMeta b to p in
-      rw (turn-accepted x mx (track-path to p l) dst (e ∙ track-length to p l))
-      (reversed-mirror x mx (track-path to p l) (omega (arith, track-pointer to p l, track-hops to p l)))
+      rw (reverse-accepted x mx (track-path to p l) dst (e ∙ track-length to p l))
+      (reversedPath-mirror x mx (track-path to p l) (omega (arith, track-pointer to p l, track-hops to p l)))
 
-  pub turned-out : (p : ℕ) → p + 1 ≡ hopCount b → (dst : List ℕ) → length dst ≡ length b → turned (track b other p) dst ≡ track b first 0
+  pub reversed-out : (p : ℕ) → p + 1 ≡ hopCount b → (dst : List ℕ) → length dst ≡ length b → reversedInto (track b other p) dst ≡ track b first 0
   unfolding track trackMeta
-  turned-out p last dst e =
+  reversed-out p last dst e =
       let all : p ≡ N - 1 - 0 = omega arith in
-      turned-mirror other p last dst e ∙ ap (λ (q : ℕ). mirror (standingAt m q) (iterate q (moved 1) b)) all
+      reversed-mirror other p last dst e ∙ ap (λ (q : ℕ). mirror (standingAt m q) (iterate q (moved 1) b)) all
 
-  pub turned-back : (p : ℕ) → p + 1 ≡ hopCount b → (dst : List ℕ) → length dst ≡ length b → turned (track b first p) dst ≡ b
+  pub reversed-back : (p : ℕ) → p + 1 ≡ hopCount b → (dst : List ℕ) → length dst ≡ length b → reversedInto (track b first p) dst ≡ b
   unfolding track trackMeta
-  turned-back p last dst e =
+  reversed-back p last dst e =
       let q : ℕ = N - 1 - p in
       let none : q ≡ 0 = omega arith in
-      turned-mirror first p last dst e
+      reversed-mirror first p last dst e
       ∙ mirror-twice (iterate q (moved 1) b) (standingAt m q) (at q (omega arith) .path)
       ∙ ap (λ (n : ℕ). iterate n (moved 1) b) none
 
@@ -196,5 +197,5 @@ module _ (b : List ℕ) (g : Begun b) where
   reply-track =
       let last : ℕ = N - 1 in
       let dst : List ℕ = replicate (length b) 0 in
-      ap (λ (x : List ℕ). turned x dst) (track-from-start other last (omega (arith, some-hop)))
-      ∙ turned-out last (omega (arith, some-hop)) dst (length-replicate (length b) 0)
+      ap (λ (x : List ℕ). reversedInto x dst) (track-from-start other last (omega (arith, some-hop)))
+      ∙ reversed-out last (omega (arith, some-hop)) dst (length-replicate (length b) 0)

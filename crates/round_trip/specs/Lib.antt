@@ -1,1 +1,4 @@
 pub mod RoundTrip
+pub mod Mirror
+pub mod Reply
+pub mod Examples

@@ -1,21 +1,19 @@
 -- Demand 3, as document 01 spells it out under "Move": two ends, their packets, the events, what a list of events leaves, and the
--- claim about it. Quoted are 01's words. A move, a walk and a turn are the definitions that the contracts of these calls cite.
+-- claim about it. Quoted are 01's words; a turn is a path reversed. A move, a walk and a turn are the definitions that the contracts of
+-- these calls cite.
 use Prim.Native.Nat.{ℕ, zero, suc, _+_, _-_, _≤_, _<_}
 use mathlib.Core.Path.{_≡_}
 use mathlib.Core.Bool.{Bool, true, false, cond}
 use mathlib.Core.List.{List, [], _∷_, _++_}
 use mathlib.Core.Option.{Option, none, some}
 use lib.ListN.{length, getD, set, replicate, getElem?}
-use lib.Dec.{eqb}
-use lib.Bits.{bitXor}
-use Rattle.wire_encoding.specs.Result.{ok, orElse, told}
+use Rattle.wire_encoding.specs.Result.{ok, mapped, orElse}
 use Rattle.wire_encoding.specs.BigEndian.{part}
-use Rattle.path_meta_header.specs.MetaHeader.{metaOf, segmentLength, hopFieldsCount, pathLength, segmentOf, firstHopField, infoStart, hopStart}
-use Rattle.path_fields.specs.Fields.{infoFieldAt, hopFieldAt, ingressInterface, egressInterface}
-use Rattle.path_meta_header.specs.declared.PathMetaHeader.{PathMetaHeader}
-use Rattle.path_fields.specs.declared.InfoField.{InfoField}
+use Rattle.path_fields.specs.Fields.{ingressInterface, egressInterface}
 use Rattle.path_fields.specs.declared.Interface.{Interface}
-use Rattle.path.specs.Dataplane.{standard, contents}
+use Rattle.path_meta_header.specs.MetaHeader.{hopFieldsCount, pathLength, hopStart}
+use Rattle.path.specs.Standard.{hopAt}
+use Rattle.path.specs.Dataplane.{Written, standard, metaHeaderOf, contents}
 use Rattle.path_reverse.specs.Reverse as reverse
 use Rattle.path_moves.specs.Moves as moves
 use Rattle.path_moves.specs.Rules as rules
@@ -75,24 +73,19 @@ sent s to (some path) = onTheWay s (s .packets ++ (record { bytes = path; to = t
 -- "Single move … of a packet: the call on its bytes; the count gains 1"; "a refused call (15 …) change nothing"
 unfoldable pub packetMoved : Packet → Packet
 packetMoved q =
-    told (moves.move 1 (q .bytes)) (λ bytes. record { bytes = bytes; to = q .to; count = q .count + 1 })
-    (λ error. q)
+    orElse (mapped (λ (bytes : List ℕ). record { bytes = bytes; to = q .to; count = q .count + 1 }) (moves.move 1 (q .bytes))) q
 
 -- "or walk with any limit, of a packet: the call on its bytes; the count gains … what the walk reports"
 unfoldable pub packetWalked : ℕ → Packet → Packet
 packetWalked limit q =
-    told (moves.walk 1 (q .bytes) limit) (λ way. record { bytes = way .bytes; to = q .to; count = q .count + way .moves })
-    (λ error. q)
+    orElse
+    (mapped (λ (way : moves.Way). record { bytes = way .bytes; to = q .to; count = q .count + way .moves }) (moves.walk 1 (q .bytes) limit)) q
 
 -- "Loss: the packet is gone."
 unfoldable pub without : ℕ → List Packet → List Packet
 without i [] = []
 without zero (q ∷ packets) = packets
 without (suc i) (q ∷ packets) = q ∷ without i packets
-
--- the header that reading a path hands back
-unfoldable pub metaHeaderOf : List ℕ → PathMetaHeader
-metaHeaderOf bytes = orElse (standard 1 bytes) (metaOf 0)
 
 -- N, and the hop pointer
 abbrev pub hopCount : List ℕ → ℕ
@@ -103,7 +96,7 @@ pointer bytes = metaHeaderOf bytes .«current_hop_field»
 
 -- "a packet arrives when the pointer is N − 1"
 unfoldable pub atLast : List ℕ → Bool
-atLast bytes = eqb (pointer bytes + 1) (hopCount bytes)
+atLast bytes = moves.isLast (metaHeaderOf bytes) (pointer bytes)
 
 -- "the end holds the path so written in place of what it held, and the packet is gone"
 unfoldable pub holding : State → ℕ → Packet → List ℕ → State
@@ -115,11 +108,12 @@ holding s i q path =
       taken = q ∷ s .taken;
     }
 
--- "Arrival: a packet whose hop pointer is N − 1 is turned into a destination that its end lends"; "an arrival elsewhere than at N − 1 … change nothing"
+-- "Arrival: a packet whose hop pointer is N − 1 is turned into a destination that its end lends"; "an arrival elsewhere than at N − 1
+-- … change nothing"
 unfoldable pub arrived : State → ℕ → List ℕ → Packet → State
 arrived s i destination q =
     cond (atLast (q .bytes))
-    (told (reverse.reverse 1 (q .bytes) destination) (λ turn. holding s i q (turn .bytes)) (λ error. s))
+    (orElse (mapped (λ (written : Written). holding s i q (written .bytes)) (reverse.reverse 1 (q .bytes) destination)) s)
     s
 
 unfoldable pub step : State → Event → State
@@ -144,45 +138,25 @@ pub record Meeting : Type 0 where
   pub entry : Interface
   pub exit : Interface
 
--- the info field of hop field j's segment
-unfoldable pub infoOf : List ℕ → ℕ → InfoField
-infoOf bytes j = infoFieldAt bytes (infoStart (segmentOf (metaHeaderOf bytes) j))
-
 -- hop field j with an accumulator: its 12 bytes; "A hop field's entry interface is its construction ingress where its segment's
 -- direction is set, else its construction egress; its exit interface is the other."
 unfoldable pub meeting : List ℕ → ℕ → ℕ → Meeting
 meeting bytes j accumulator =
-    let field = hopFieldAt bytes (hopStart (metaHeaderOf bytes) j) in
+    let field = hopAt bytes (metaHeaderOf bytes) j in
     record {
       field = part (hopStart (metaHeaderOf bytes) j) 12 bytes;
       accumulator = accumulator;
-      entry = ingressInterface (infoOf bytes j) field;
-      exit = egressInterface (infoOf bytes j) field;
+      entry = ingressInterface (moves.infoOf bytes j) field;
+      exit = egressInterface (moves.infoOf bytes j) field;
     }
 
 -- "A hop field meets its segment's accumulator as it is while the hop pointer stands there"
 unfoldable pub met : List ℕ → Meeting
-met bytes = meeting bytes (pointer bytes) (infoOf bytes (pointer bytes) .accumulator)
-
--- segment k's accumulator in B, "XOR the first two code bytes of the owner of each move inside that segment", n moves from its first
--- hop field, "save owners spared for peering"
-unfoldable pub accumulatorAfter : List ℕ → ℕ → ℕ → ℕ
-accumulatorAfter b k zero = infoFieldAt b (infoStart k) .accumulator
-accumulatorAfter b k (suc n) =
-    let m = metaHeaderOf b in
-    let flags = rules.flagsAt b k in
-    let owner = rules.ownerOf flags (firstHopField m k + n) in
-    cond (rules.spared flags owner (segmentLength m 0)) (accumulatorAfter b k n) (bitXor (accumulatorAfter b k n) (moves.codeOf b m owner))
-
--- "Hop field i of B has its accumulator by B alone … from its first hop field to i"
-unfoldable pub accumulatorBy : List ℕ → ℕ → ℕ
-accumulatorBy b i =
-    let k = segmentOf (metaHeaderOf b) i in
-    accumulatorAfter b k (i - firstHopField (metaHeaderOf b) k)
+met bytes = meeting bytes (pointer bytes) (moves.infoOf bytes (pointer bytes) .accumulator)
 
 -- hop field i by B alone
 unfoldable pub byPath : List ℕ → ℕ → Meeting
-byPath b i = meeting b i (accumulatorBy b i)
+byPath b i = meeting b i (moves.accumulatorBy b i)
 
 unfoldable pub exchanged : Meeting → Meeting
 exchanged x = record { field = x .field; accumulator = x .accumulator; entry = x .exit; exit = x .entry }
@@ -221,11 +195,11 @@ All P [] = Unit {0}
 All P (a ∷ l) = P a × All P l
 
 -- "B walked to N − 1 and turned": the calls one after the other, the turn into a destination of B's length
-unfoldable pub turned : List ℕ → List ℕ → List ℕ
-turned bytes destination = contents (reverse.reverse 1 bytes destination) destination
+unfoldable pub reversedInto : List ℕ → List ℕ → List ℕ
+reversedInto bytes destination = contents (reverse.reverse 1 bytes destination) destination
 
 unfoldable pub reply : List ℕ → List ℕ
-reply b = turned (moves.walked 1 b (hopCount b - 1)) (replicate (length b) 0)
+reply b = reversedInto (moves.walked 1 b (hopCount b - 1)) (replicate (length b) 0)
 
 -- whether the other end has taken an arrival
 unfoldable pub reached : List Packet → Bool
@@ -247,19 +221,3 @@ pub record Claim (b : List ℕ) (s : State) : Type 0 where
 -- "All this is a single claim about the list, and not one for each call."
 abbrev pub RoundTrip : Type 0
 RoundTrip = (b : List ℕ) → Begun b → (events : List Event) → Claim b (after (begin b) events)
-
--- BESIDE THE CLAIM
-
--- the trip: out and back, into destinations that the ends lend
-abbrev pub trip : List ℕ → List ℕ → List ℕ → List Event
-trip b there back =
-    sending first ∷ walk 0 (hopCount b - 1) ∷ arrival 0 there ∷ sending other ∷ walk 0 (hopCount b - 1) ∷ arrival 0 back ∷ []
-
--- what is met on the way of n hop fields, in order of travel; and the same in opposite order
-unfoldable pub along : (ℕ → Meeting) → ℕ → List Meeting
-along at zero = []
-along at (suc n) = along at n ++ (at n ∷ [])
-
-unfoldable pub against : (ℕ → Meeting) → ℕ → List Meeting
-against at zero = []
-against at (suc n) = at n ∷ against at n

@@ -12,7 +12,7 @@ use Rattle.packet_address_header.specs.declared.AddressHeader.{AddressHeader}
 use Rattle.errors.specs.declared.packet_error.Encoded.{Encoded}
 use Rattle.packet.specs.declared.raw.ScionPacketRaw.{ScionPacketRaw}
 use Rattle.packet_headers.specs.declared.ScionHeaders as library
-use Rattle.scion_paths.specs.Answer.{decodedOut, pathOut, partOut}
+use Rattle.scion_paths.specs.Answer.{decodedOut}
 use Rattle.scion_paths.specs.declared.ScionAnswer.{ScionAnswer}
 use Rattle.scion_packets.specs.declared.ScionHost.{ScionHost}
 use Rattle.scion_packets.specs.declared.ScionPacket.{ScionPacket}
@@ -53,7 +53,7 @@ unfoldable pub packetOut : ScionPacketRaw → ScionPacket
 packetOut p =
     record {
       answer = decodedOut (p .answer);
-      path = pathOut (p .path);
+      path = p .path;
       version = p .common .version;
       «traffic_class» = p .common .«traffic_class»;
       «next_header» = p .common .«next_header»;
@@ -66,8 +66,8 @@ packetOut p =
       «source_ia» = p .address .«source_ia» .0;
       destination = hostOut (p .address .destination);
       source = hostOut (p .address .source);
-      «path_part» = partOut (p .«path_part»);
-      «payload_part» = partOut (p .«payload_part»);
+      «path_part» = p .«path_part»;
+      «payload_part» = p .«payload_part»;
     }
 
 -- WRITING

@@ -8,12 +8,10 @@ use packet_address_header::AddressHeader;
 use packet_address_header::HostAddress;
 use packet_address_header::MaybeEncoded;
 use packet_headers::ScionHeaders as Headers;
+use path::standard::Part;
+use path::standard::StandardPath;
 use scion_paths::ScionAnswer;
-use scion_paths::ScionPart;
-use scion_paths::ScionPath;
 use scion_paths::decoded_out;
-use scion_paths::part_out;
-use scion_paths::path_out;
 ghost use mathlib.Core.Path.{_≡_};
 ghost use Rattle.scion_packets.specs.Packets as spec;
 
@@ -29,7 +27,7 @@ pub struct ScionHost {
 #[repr(C)]
 pub struct ScionPacket {
     pub answer: ScionAnswer,
-    pub path: ScionPath,
+    pub path: StandardPath,
     pub version: u8,
     pub traffic_class: u8,
     pub next_header: u8,
@@ -42,8 +40,8 @@ pub struct ScionPacket {
     pub source_ia: u64,
     pub destination: ScionHost,
     pub source: ScionHost,
-    pub path_part: ScionPart,
-    pub payload_part: ScionPart,
+    pub path_part: Part,
+    pub payload_part: Part,
 }
 
 // The headers to be written.
@@ -155,7 +153,7 @@ pub fn packet_out(packet: ScionPacketRaw) -> ScionPacket
     let payload_part = packet.payload_part;
     ScionPacket {
         answer: decoded_out(answer),
-        path: path_out(path),
+        path,
         version: common.version,
         traffic_class: common.traffic_class,
         next_header: common.next_header,
@@ -168,8 +166,8 @@ pub fn packet_out(packet: ScionPacketRaw) -> ScionPacket
         source_ia: source_ia.0,
         destination: host_out(to),
         source: host_out(from),
-        path_part: part_out(path_part),
-        payload_part: part_out(payload_part),
+        path_part,
+        payload_part,
     }
 }
 

@@ -3,7 +3,7 @@
 use Prim.Native.Nat.{ℕ}
 use mathlib.Core.Path.{_≡_, refl}
 use mathlib.Core.Bool.{false}
-use mathlib.Core.List.{List}
+use mathlib.Core.List.{List, [], _∷_}
 use lib.IntN.{pos}
 use lib.ListN.{replicate}
 use Rattle.path_meta_header.specs.MetaHeader.{metaOf, nthField}
@@ -16,8 +16,9 @@ use Rattle.path.specs.Dataplane.{pathAnswer, located, segment}
 use Rattle.path_expiry.specs.Expiry.{expiryFound, timeLeftFound}
 use Rattle.path_interfaces.specs.Interfaces.{interfaceCount, interfaceFound}
 use Rattle.path_moves.specs.Moves.{walkAnswer}
-use Rattle.scion_paths.specs.Answer.{answerOut, pathOut, partOut}
-use Rattle.scion_paths.proofs.Answer.{zeros}
+use Rattle.path.specs.declared.standard.StandardPath.{StandardPath}
+use Rattle.path.specs.declared.standard.Part.{Part}
+use Rattle.scion_paths.specs.Answer.{answerOut}
 use Rattle.scion_paths.specs.Paths.{
   pathAnswerOut,
   infoFieldOut,
@@ -30,39 +31,65 @@ use Rattle.scion_paths.specs.Paths.{
   walkOut,
 }
 
+-- the record of no path, and no part
+abbrev pub zeros : StandardPath
+zeros = record { «meta_header» = record { «current_info_field» = 0; «current_hop_field» = 0; reserved = 0; «segment_lengths» = 0 ∷ 0 ∷ 0 ∷ [] } }
+
+abbrev none : Part
+none = record { start = 0; len = 0 }
+
 module _ (path : Result PathError PathMetaHeader) (error : PathError) where
-  pub path-answer-refused : pathAnswerOut (pathAnswer (refused error)) ≡ record { answer = answerOut (Refused error); path = zeros }
-  unfolding pathAnswerOut pathOut pathAnswer metaOf nthField
+  pub path-answer-refused : pathAnswerOut (pathAnswer (refused error))
+      ≡ record { answer = answerOut (Refused error); path = zeros }
+  unfolding pathAnswerOut pathAnswer metaOf nthField
   path-answer-refused = refl
 
-  pub info-field-refused : (bytes : List ℕ) → infoFieldOut bytes (located path (refused error)) ≡ record { answer = answerOut (Refused error); path = zeros; start = 0; flags = 0; reserved = 0; accumulator = 0; timestamp = 0 }
-  unfolding infoFieldOut pathOut located metaOf nthField newInfoField zeroInfoField
+  pub info-field-refused : (bytes : List ℕ) → infoFieldOut bytes (located path (refused error))
+      ≡ record { answer = answerOut (Refused error); path = zeros; start = 0; flags = 0; reserved = 0; accumulator = 0; timestamp = 0 }
+  unfolding infoFieldOut located metaOf nthField newInfoField zeroInfoField
   info-field-refused bytes = refl
 
-  pub hop-field-refused : (bytes : List ℕ) → hopFieldOut bytes (located path (refused error)) ≡ record { answer = answerOut (Refused error); path = zeros; start = 0; flags = 0; «exp_time» = 0; «cons_ingress» = 0; «cons_egress» = 0; mac = replicate 6 0 }
-  unfolding hopFieldOut pathOut located metaOf nthField newHopField zeroHopField
+  pub hop-field-refused : (bytes : List ℕ) → hopFieldOut bytes (located path (refused error))
+      ≡ record {
+        answer = answerOut (Refused error);
+        path = zeros;
+        start = 0;
+        flags = 0;
+        «exp_time» = 0;
+        «cons_ingress» = 0;
+        «cons_egress» = 0;
+        mac =
+            replicate 6 0;
+      }
+  unfolding hopFieldOut located metaOf nthField newHopField zeroHopField
   hop-field-refused bytes = refl
 
-  pub segment-refused : segmentOut (segment path (refused error)) ≡ record { answer = answerOut (Refused error); path = zeros; «info_field» = record { start = 0; len = 0 }; «hop_fields» = record { start = 0; len = 0 } }
-  unfolding segmentOut partOut pathOut segment metaOf nthField
+  pub segment-refused : segmentOut (segment path (refused error))
+      ≡ record { answer = answerOut (Refused error); path = zeros; «info_field» = none; «hop_fields» = none }
+  unfolding segmentOut segment metaOf nthField
   segment-refused = refl
 
-  pub expiry-refused : expiryOut (expiryFound path (refused error)) ≡ record { answer = answerOut (Refused error); path = zeros; ms = 0 }
-  unfolding expiryOut pathOut expiryFound metaOf nthField
+  pub expiry-refused : expiryOut (expiryFound path (refused error))
+      ≡ record { answer = answerOut (Refused error); path = zeros; ms = 0 }
+  unfolding expiryOut expiryFound metaOf nthField
   expiry-refused = refl
 
-  pub time-left-refused : timeLeftOut (timeLeftFound path (refused error)) ≡ record { answer = answerOut (Refused error); path = zeros; ms = pos 0 }
-  unfolding timeLeftOut pathOut timeLeftFound metaOf nthField
+  pub time-left-refused : timeLeftOut (timeLeftFound path (refused error))
+      ≡ record { answer = answerOut (Refused error); path = zeros; ms = pos 0 }
+  unfolding timeLeftOut timeLeftFound metaOf nthField
   time-left-refused = refl
 
-  pub interface-count-refused : interfaceCountOut (interfaceCount path (refused error)) ≡ record { answer = answerOut (Refused error); path = zeros; count = 0 }
-  unfolding interfaceCountOut pathOut interfaceCount metaOf nthField
+  pub interface-count-refused : interfaceCountOut (interfaceCount path (refused error))
+      ≡ record { answer = answerOut (Refused error); path = zeros; count = 0 }
+  unfolding interfaceCountOut interfaceCount metaOf nthField
   interface-count-refused = refl
 
-  pub interface-refused : interfaceOut (interfaceFound path (refused error)) ≡ record { answer = answerOut (Refused error); path = zeros; «hop_field» = 0; interface = 0 }
-  unfolding interfaceOut pathOut interfaceFound metaOf nthField
+  pub interface-refused : interfaceOut (interfaceFound path (refused error))
+      ≡ record { answer = answerOut (Refused error); path = zeros; «hop_field» = 0; interface = 0 }
+  unfolding interfaceOut interfaceFound metaOf nthField
   interface-refused = refl
 
-  pub walk-refused : walkOut (walkAnswer 1 (refused error)) ≡ record { answer = answerOut (Refused error); path = zeros; moves = 0; arrived = false }
-  unfolding walkOut pathOut walkAnswer metaOf nthField
+  pub walk-refused : walkOut (walkAnswer 1 (refused error))
+      ≡ record { answer = answerOut (Refused error); path = zeros; moves = 0; arrived = false }
+  unfolding walkOut walkAnswer metaOf nthField
   walk-refused = refl

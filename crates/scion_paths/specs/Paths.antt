@@ -1,7 +1,8 @@
 -- What the calls on paths hand to C: each answer of the library, field by field.
 use Prim.Native.Nat.{ℕ}
 use mathlib.Core.List.{List}
-use Rattle.path_fields.specs.Fields.{newInfoField, newHopField}
+use Rattle.wire_encoding.specs.Result.{orElse}
+use Rattle.path_fields.specs.Fields.{newInfoField, zeroInfoField, newHopField, zeroHopField}
 use Rattle.path_fields.specs.declared.Interface.{Interface}
 use Rattle.path_fields.specs.declared.Interface.the-variants.{None, Id}
 use Rattle.path.specs.Dataplane.{partIn}
@@ -14,7 +15,7 @@ use Rattle.path_expiry.specs.declared.TimeLeft.{TimeLeft}
 use Rattle.path_interfaces.specs.declared.InterfaceCount.{InterfaceCount}
 use Rattle.path_interfaces.specs.declared.InterfaceAt.{InterfaceAt}
 use Rattle.path_moves.specs.declared.WalkAnswer.{WalkAnswer}
-use Rattle.scion_paths.specs.Answer.{answerOut, decodedOut, pathOut, partOut}
+use Rattle.scion_paths.specs.Answer.{answerOut, decodedOut}
 use Rattle.scion_paths.specs.declared.ScionPathAnswer.{ScionPathAnswer}
 use Rattle.scion_paths.specs.declared.ScionPathRead.{ScionPathRead}
 use Rattle.scion_paths.specs.declared.ScionInfoField.{ScionInfoField}
@@ -28,19 +29,19 @@ use Rattle.scion_paths.specs.declared.ScionWalk.{ScionWalk}
 
 -- alert flags, moves, copies and reversals: the answer, and the record of the path
 unfoldable pub pathAnswerOut : PathAnswer → ScionPathAnswer
-pathAnswerOut a = record { answer = answerOut (a .answer); path = pathOut (a .path) }
+pathAnswerOut a = record { answer = answerOut (a .answer); path = a .path }
 
 -- reading: also how many of the bytes are the path's
 unfoldable pub pathReadOut : DataplaneRead → ScionPathRead
-pathReadOut read = record { answer = decodedOut (read .answer); path = pathOut (read .path); length = read .length }
+pathReadOut read = record { answer = decodedOut (read .answer); path = read .path; length = read .length }
 
 -- an info field: where it starts, and the values of its part of 8 bytes; the part of a refusal is empty, and its values are zero
 unfoldable pub infoFieldOut : List ℕ → Located → ScionInfoField
 infoFieldOut bytes located =
-    let field = newInfoField (partIn bytes (located .part)) .field in
+    let field = orElse (newInfoField (partIn bytes (located .part))) zeroInfoField in
     record {
       answer = answerOut (located .answer);
-      path = pathOut (located .path);
+      path = located .path;
       start = located .part .start;
       flags = field .flags;
       reserved = field .reserved;
@@ -51,10 +52,10 @@ infoFieldOut bytes located =
 -- a hop field, likewise, by its part of 12 bytes
 unfoldable pub hopFieldOut : List ℕ → Located → ScionHopField
 hopFieldOut bytes located =
-    let field = newHopField (partIn bytes (located .part)) .field in
+    let field = orElse (newHopField (partIn bytes (located .part))) zeroHopField in
     record {
       answer = answerOut (located .answer);
-      path = pathOut (located .path);
+      path = located .path;
       start = located .part .start;
       flags = field .flags;
       «exp_time» = field .«exp_time»;
@@ -68,22 +69,22 @@ unfoldable pub segmentOut : Segment → ScionSegment
 segmentOut segment =
     record {
       answer = answerOut (segment .answer);
-      path = pathOut (segment .path);
-      «info_field» = partOut (segment .«info_field»);
-      «hop_fields» = partOut (segment .«hop_fields»);
+      path = segment .path;
+      «info_field» = segment .«info_field»;
+      «hop_fields» = segment .«hop_fields»;
     }
 
 -- an expiry, and the time left, in ms
 unfoldable pub expiryOut : Expiry → ScionExpiry
-expiryOut expiry = record { answer = answerOut (expiry .answer); path = pathOut (expiry .path); ms = expiry .ms }
+expiryOut expiry = record { answer = answerOut (expiry .answer); path = expiry .path; ms = expiry .ms }
 
 unfoldable pub timeLeftOut : TimeLeft → ScionTimeLeft
-timeLeftOut left = record { answer = answerOut (left .answer); path = pathOut (left .path); ms = left .ms }
+timeLeftOut left = record { answer = answerOut (left .answer); path = left .path; ms = left .ms }
 
 -- the number of interfaces
 unfoldable pub interfaceCountOut : InterfaceCount → ScionInterfaceCount
 interfaceCountOut interfaces =
-    record { answer = answerOut (interfaces .answer); path = pathOut (interfaces .path); count = interfaces .count }
+    record { answer = answerOut (interfaces .answer); path = interfaces .path; count = interfaces .count }
 
 -- an interface's number on the wire: 0 means none
 abbrev pub interfaceNumber : Interface → ℕ
@@ -95,7 +96,7 @@ unfoldable pub interfaceOut : InterfaceAt → ScionInterface
 interfaceOut found =
     record {
       answer = answerOut (found .answer);
-      path = pathOut (found .path);
+      path = found .path;
       «hop_field» = found .«hop_field»;
       interface = interfaceNumber (found .interface);
     }
@@ -103,4 +104,4 @@ interfaceOut found =
 -- a walk: how many moves it made, and whether it stands at the last hop field
 unfoldable pub walkOut : WalkAnswer → ScionWalk
 walkOut walk =
-    record { answer = answerOut (walk .answer); path = pathOut (walk .path); moves = walk .moves; arrived = walk .arrived }
+    record { answer = answerOut (walk .answer); path = walk .path; moves = walk .moves; arrived = walk .arrived }

@@ -16,9 +16,9 @@ use path_fields::Interface;
 use path_interfaces::InterfaceAt;
 use path_interfaces::InterfaceCount;
 use path_moves::WalkAnswer;
+use wire_encoding::read::part_of;
 ghost use mathlib.Core.Path.{_≡_};
-ghost use Rattle.scion_paths.specs.Answer.{answerOut, decodedOut, pathOut, partOut};
-ghost use Rattle.path.specs.Dataplane.{partIn};
+ghost use Rattle.scion_paths.specs.Answer.{answerOut, decodedOut};
 ghost use Rattle.scion_paths.specs.Paths as spec;
 
 // 0 where the call was carried out, else the number of the refusal; the value is 0 unless the number is 2 or 3.
@@ -26,22 +26,6 @@ ghost use Rattle.scion_paths.specs.Paths as spec;
 pub struct ScionAnswer {
     pub number: u8,
     pub value: u8,
-}
-
-// The record of a standard path; all zero for other types.
-#[repr(C)]
-pub struct ScionPath {
-    pub current_info_field: u8,
-    pub current_hop_field: u8,
-    pub reserved: u8,
-    pub segment_lengths: [u8; 3],
-}
-
-// A part of the caller's bytes.
-#[repr(C)]
-pub struct ScionPart {
-    pub start: usize,
-    pub len: usize,
 }
 
 // The answer of a call.
@@ -71,42 +55,18 @@ pub fn decoded_out(answer: Decoded) -> ScionAnswer
     }
 }
 
-// The record of a path.
-pub fn path_out(path: StandardPath) -> ScionPath
-    ensures { λ r. ⌜ r ≡ pathOut path ⌝ }
-{
-    let meta_header = path.meta_header;
-    let segment_lengths = meta_header.segment_lengths;
-    ScionPath {
-        current_info_field: meta_header.current_info_field,
-        current_hop_field: meta_header.current_hop_field,
-        reserved: meta_header.reserved,
-        segment_lengths,
-    }
-}
-
-// A part of the caller's bytes.
-pub fn part_out(part: Part) -> ScionPart
-    ensures { λ r. ⌜ r ≡ partOut part ⌝ }
-{
-    ScionPart {
-        start: part.start,
-        len: part.len,
-    }
-}
-
 // Whether a call was carried out, and the record of the path as the call leaves it.
 #[repr(C)]
 pub struct ScionPathAnswer {
     pub answer: ScionAnswer,
-    pub path: ScionPath,
+    pub path: StandardPath,
 }
 
 // A path that was read, and how many of the bytes are the path's.
 #[repr(C)]
 pub struct ScionPathRead {
     pub answer: ScionAnswer,
-    pub path: ScionPath,
+    pub path: StandardPath,
     pub length: usize,
 }
 
@@ -114,7 +74,7 @@ pub struct ScionPathRead {
 #[repr(C)]
 pub struct ScionInfoField {
     pub answer: ScionAnswer,
-    pub path: ScionPath,
+    pub path: StandardPath,
     pub start: usize,
     pub flags: u8,
     pub reserved: u8,
@@ -126,7 +86,7 @@ pub struct ScionInfoField {
 #[repr(C)]
 pub struct ScionHopField {
     pub answer: ScionAnswer,
-    pub path: ScionPath,
+    pub path: StandardPath,
     pub start: usize,
     pub flags: u8,
     pub exp_time: u8,
@@ -139,16 +99,16 @@ pub struct ScionHopField {
 #[repr(C)]
 pub struct ScionSegment {
     pub answer: ScionAnswer,
-    pub path: ScionPath,
-    pub info_field: ScionPart,
-    pub hop_fields: ScionPart,
+    pub path: StandardPath,
+    pub info_field: Part,
+    pub hop_fields: Part,
 }
 
 // An expiry in ms since 1970.
 #[repr(C)]
 pub struct ScionExpiry {
     pub answer: ScionAnswer,
-    pub path: ScionPath,
+    pub path: StandardPath,
     pub ms: u64,
 }
 
@@ -156,7 +116,7 @@ pub struct ScionExpiry {
 #[repr(C)]
 pub struct ScionTimeLeft {
     pub answer: ScionAnswer,
-    pub path: ScionPath,
+    pub path: StandardPath,
     pub ms: i64,
 }
 
@@ -164,7 +124,7 @@ pub struct ScionTimeLeft {
 #[repr(C)]
 pub struct ScionInterfaceCount {
     pub answer: ScionAnswer,
-    pub path: ScionPath,
+    pub path: StandardPath,
     pub count: usize,
 }
 
@@ -172,7 +132,7 @@ pub struct ScionInterfaceCount {
 #[repr(C)]
 pub struct ScionInterface {
     pub answer: ScionAnswer,
-    pub path: ScionPath,
+    pub path: StandardPath,
     pub hop_field: usize,
     pub interface: u16,
 }
@@ -181,7 +141,7 @@ pub struct ScionInterface {
 #[repr(C)]
 pub struct ScionWalk {
     pub answer: ScionAnswer,
-    pub path: ScionPath,
+    pub path: StandardPath,
     pub moves: usize,
     pub arrived: bool,
 }
@@ -194,7 +154,7 @@ pub fn path_answer_out(given: PathAnswer) -> ScionPathAnswer
     let path = given.path;
     ScionPathAnswer {
         answer: answer_out(answer),
-        path: path_out(path),
+        path,
     }
 }
 
@@ -206,24 +166,9 @@ pub fn path_read_out(read: DataplaneRead) -> ScionPathRead
     let path = read.path;
     ScionPathRead {
         answer: decoded_out(answer),
-        path: path_out(path),
+        path,
         length: read.length,
     }
-}
-
-// The bytes of a part; where it reaches beyond them, what there is of it.
-fn bytes_of(bytes: &[u8], part: Part) -> &[u8]
-    ensures { λ r. ⌜ now r ≡ partIn (now (bytes .entry)) part ⌝ }
-{
-    let start = part.start;
-    let len = part.len;
-    if bytes.len() < start {
-        return &bytes[..0];
-    }
-    if bytes.len() - start < len {
-        return &bytes[start..];
-    }
-    &bytes[start..start + len]
 }
 
 // An info field and where it starts.
@@ -233,10 +178,10 @@ pub fn info_field_out(bytes: &[u8], located: Located) -> ScionInfoField
     let answer = located.answer;
     let path = located.path;
     let part = located.part;
-    let field = InfoField::new(bytes_of(bytes, part)).field;
+    let field = InfoField::new(part_of(bytes, part.start, part.len)).field;
     ScionInfoField {
         answer: answer_out(answer),
-        path: path_out(path),
+        path,
         start: part.start,
         flags: field.flags,
         reserved: field.reserved,
@@ -252,11 +197,11 @@ pub fn hop_field_out(bytes: &[u8], located: Located) -> ScionHopField
     let answer = located.answer;
     let path = located.path;
     let part = located.part;
-    let field = HopField::new(bytes_of(bytes, part)).field;
+    let field = HopField::new(part_of(bytes, part.start, part.len)).field;
     let mac = field.mac;
     ScionHopField {
         answer: answer_out(answer),
-        path: path_out(path),
+        path,
         start: part.start,
         flags: field.flags,
         exp_time: field.exp_time,
@@ -276,9 +221,9 @@ pub fn segment_out(segment: Segment) -> ScionSegment
     let hop_fields = segment.hop_fields;
     ScionSegment {
         answer: answer_out(answer),
-        path: path_out(path),
-        info_field: part_out(info_field),
-        hop_fields: part_out(hop_fields),
+        path,
+        info_field,
+        hop_fields,
     }
 }
 
@@ -290,7 +235,7 @@ pub fn expiry_out(expiry: Expiry) -> ScionExpiry
     let path = expiry.path;
     ScionExpiry {
         answer: answer_out(answer),
-        path: path_out(path),
+        path,
         ms: expiry.ms,
     }
 }
@@ -303,7 +248,7 @@ pub fn time_left_out(left: TimeLeft) -> ScionTimeLeft
     let path = left.path;
     ScionTimeLeft {
         answer: answer_out(answer),
-        path: path_out(path),
+        path,
         ms: left.ms,
     }
 }
@@ -316,7 +261,7 @@ pub fn interface_count_out(interfaces: InterfaceCount) -> ScionInterfaceCount
     let path = interfaces.path;
     ScionInterfaceCount {
         answer: answer_out(answer),
-        path: path_out(path),
+        path,
         count: interfaces.count,
     }
 }
@@ -340,7 +285,7 @@ pub fn interface_out(found: InterfaceAt) -> ScionInterface
     let interface = found.interface;
     ScionInterface {
         answer: answer_out(answer),
-        path: path_out(path),
+        path,
         hop_field: found.hop_field,
         interface: interface_number(interface),
     }
@@ -354,7 +299,7 @@ pub fn walk_out(walk: WalkAnswer) -> ScionWalk
     let path = walk.path;
     ScionWalk {
         answer: answer_out(answer),
-        path: path_out(path),
+        path,
         moves: walk.moves,
         arrived: walk.arrived,
     }

@@ -39,9 +39,10 @@ pub extern "C" fn scion_new_headers(
     payload_length: usize,
     flow_id: u32,
 ) -> ScionHeaders
-    ensures { λ r.
-        ⌜ r
-        ≡ spec.headersOut (headers.newHeaders (spec.addressIn «destination_ia» destination «source_ia» source) «path_type» «path_len» «next_header» «payload_length» «flow_id») ⌝ }
+    ensures { λ r. ⌜ r
+        ≡ spec.headersOut
+        (headers.newHeaders (spec.addressIn «destination_ia» destination «source_ia» source) «path_type» «path_len» «next_header» «payload_length»
+        «flow_id») ⌝ }
 {
     let address = address_in(destination_ia, destination, source_ia, source);
     headers_out(Headers::new(
@@ -70,8 +71,7 @@ pub extern "C" fn scion_write_headers(
     dst: &mut [u8],
 ) -> ScionAnswer
     ensures { λ r. ⌜ r ≡ spec.encodedOut (encodedOf (headers.writeHeaders (spec.headersIn given) (now (path .entry)) (length (now (dst .entry))))) ⌝ }
-    ensures { λ _.
-        ⌜ now (dst .exit)
+    ensures { λ _. ⌜ now (dst .exit)
         ≡ orElse (headers.writeHeaders (spec.headersIn given) (now (path .entry)) (length (now (dst .entry)))) (now (dst .entry)) ⌝ }
 {
     encoded_out(headers_in(given).encode_to(path, dst))
@@ -91,12 +91,26 @@ pub extern "C" fn scion_write_new_headers(
     path: &[u8],
     dst: &mut [u8],
 ) -> ScionAnswer
-    ensures { λ r.
-        ⌜ r
-        ≡ spec.encodedOut (encodedOf (headers.writeHeaders (headers.newHeaders (spec.addressIn «destination_ia» destination «source_ia» source) «path_type» (length (now (path .entry))) «next_header» «payload_length» «flow_id») (now (path .entry)) (length (now (dst .entry))))) ⌝ }
-    ensures { λ _.
-        ⌜ now (dst .exit)
-        ≡ orElse (headers.writeHeaders (headers.newHeaders (spec.addressIn «destination_ia» destination «source_ia» source) «path_type» (length (now (path .entry))) «next_header» «payload_length» «flow_id») (now (path .entry)) (length (now (dst .entry)))) (now (dst .entry)) ⌝ }
+    ensures { λ r. ⌜ r
+        ≡ spec.encodedOut
+        (encodedOf
+        (headers.writeHeaders
+        (headers.newHeaders (spec.addressIn «destination_ia» destination «source_ia» source) «path_type» (length (now (path .entry)))
+        «next_header»
+        «payload_length»
+        «flow_id»)
+        (now (path .entry))
+        (length (now (dst .entry))))) ⌝ }
+    ensures { λ _. ⌜ now (dst .exit)
+        ≡ orElse
+        (headers.writeHeaders
+        (headers.newHeaders (spec.addressIn «destination_ia» destination «source_ia» source) «path_type» (length (now (path .entry)))
+        «next_header»
+        «payload_length»
+        «flow_id»)
+        (now (path .entry))
+        (length (now (dst .entry))))
+        (now (dst .entry)) ⌝ }
 {
     let address = address_in(destination_ia, destination, source_ia, source);
     let made = Headers::new(

@@ -45,7 +45,10 @@ pub extern "C" fn scion_read_path(path_type: u8, bytes: &[u8]) -> ScionPathRead
 // Info field `index`.
 #[no_mangle]
 pub extern "C" fn scion_info_field(path_type: u8, bytes: &[u8], index: usize) -> ScionInfoField
-    ensures { λ r. ⌜ r ≡ spec.infoFieldOut (now (bytes .entry)) (dataplane.located (dataplane.standard «path_type» (now (bytes .entry))) (dataplane.infoFieldIn «path_type» (now (bytes .entry)) index)) ⌝ }
+    ensures { λ r. ⌜ r
+        ≡ spec.infoFieldOut (now (bytes .entry))
+        (dataplane.located (dataplane.standard «path_type» (now (bytes .entry)))
+        (dataplane.infoFieldIn «path_type» (now (bytes .entry)) index)) ⌝ }
 {
     info_field_out(
         bytes,
@@ -56,7 +59,10 @@ pub extern "C" fn scion_info_field(path_type: u8, bytes: &[u8], index: usize) ->
 // Hop field `index`.
 #[no_mangle]
 pub extern "C" fn scion_hop_field(path_type: u8, bytes: &[u8], index: usize) -> ScionHopField
-    ensures { λ r. ⌜ r ≡ spec.hopFieldOut (now (bytes .entry)) (dataplane.located (dataplane.standard «path_type» (now (bytes .entry))) (dataplane.hopFieldIn «path_type» (now (bytes .entry)) index)) ⌝ }
+    ensures { λ r. ⌜ r
+        ≡ spec.hopFieldOut (now (bytes .entry))
+        (dataplane.located (dataplane.standard «path_type» (now (bytes .entry)))
+        (dataplane.hopFieldIn «path_type» (now (bytes .entry)) index)) ⌝ }
 {
     hop_field_out(
         bytes,
@@ -67,7 +73,9 @@ pub extern "C" fn scion_hop_field(path_type: u8, bytes: &[u8], index: usize) -> 
 // Segment `index`: where its info field and its hop fields lie.
 #[no_mangle]
 pub extern "C" fn scion_segment(path_type: u8, bytes: &[u8], index: usize) -> ScionSegment
-    ensures { λ r. ⌜ r ≡ spec.segmentOut (dataplane.segment (dataplane.standard «path_type» (now (bytes .entry))) (dataplane.segmentIn «path_type» (now (bytes .entry)) index)) ⌝ }
+    ensures { λ r. ⌜ r
+        ≡ spec.segmentOut
+        (dataplane.segment (dataplane.standard «path_type» (now (bytes .entry))) (dataplane.segmentIn «path_type» (now (bytes .entry)) index)) ⌝ }
 {
     segment_out(DataplanePath::new(path_type).segment(bytes, index))
 }
@@ -75,7 +83,10 @@ pub extern "C" fn scion_segment(path_type: u8, bytes: &[u8], index: usize) -> Sc
 // The expiry of segment `index`.
 #[no_mangle]
 pub extern "C" fn scion_segment_expiry(path_type: u8, bytes: &[u8], index: usize) -> ScionExpiry
-    ensures { λ r. ⌜ r ≡ spec.expiryOut (expiry.expiryFound (dataplane.standard «path_type» (now (bytes .entry))) (expiry.segmentExpiryIn «path_type» (now (bytes .entry)) index)) ⌝ }
+    ensures { λ r. ⌜ r
+        ≡ spec.expiryOut
+        (expiry.expiryFound (dataplane.standard «path_type» (now (bytes .entry)))
+        (expiry.segmentExpiryIn «path_type» (now (bytes .entry)) index)) ⌝ }
 {
     expiry_out(path_expiry::segment_expiry_time(DataplanePath::new(path_type), bytes, index))
 }
@@ -83,7 +94,9 @@ pub extern "C" fn scion_segment_expiry(path_type: u8, bytes: &[u8], index: usize
 // The expiry of the path.
 #[no_mangle]
 pub extern "C" fn scion_expiry(path_type: u8, bytes: &[u8]) -> ScionExpiry
-    ensures { λ r. ⌜ r ≡ spec.expiryOut (expiry.expiryFound (dataplane.standard «path_type» (now (bytes .entry))) (expiry.expiryIn «path_type» (now (bytes .entry)))) ⌝ }
+    ensures { λ r. ⌜ r
+        ≡ spec.expiryOut
+        (expiry.expiryFound (dataplane.standard «path_type» (now (bytes .entry))) (expiry.expiryIn «path_type» (now (bytes .entry)))) ⌝ }
 {
     expiry_out(path_expiry::expiry_time(DataplanePath::new(path_type), bytes))
 }
@@ -91,7 +104,9 @@ pub extern "C" fn scion_expiry(path_type: u8, bytes: &[u8]) -> ScionExpiry
 // The path's expiry less `at`, a time of 0 to 9,000,000,000,000 ms.
 #[no_mangle]
 pub extern "C" fn scion_time_left(path_type: u8, bytes: &[u8], at: u64) -> ScionTimeLeft
-    ensures { λ r. ⌜ r ≡ spec.timeLeftOut (expiry.timeLeftFound (dataplane.standard «path_type» (now (bytes .entry))) (expiry.timeLeftIn «path_type» (now (bytes .entry)) at)) ⌝ }
+    ensures { λ r. ⌜ r
+        ≡ spec.timeLeftOut
+        (expiry.timeLeftFound (dataplane.standard «path_type» (now (bytes .entry))) (expiry.timeLeftIn «path_type» (now (bytes .entry)) at)) ⌝ }
 {
     time_left_out(path_expiry::time_left(DataplanePath::new(path_type), bytes, at))
 }
@@ -99,7 +114,10 @@ pub extern "C" fn scion_time_left(path_type: u8, bytes: &[u8], at: u64) -> Scion
 // The number of interfaces on the path.
 #[no_mangle]
 pub extern "C" fn scion_interfaces_count(path_type: u8, bytes: &[u8]) -> ScionInterfaceCount
-    ensures { λ r. ⌜ r ≡ spec.interfaceCountOut (interfaces.interfaceCount (dataplane.standard «path_type» (now (bytes .entry))) (interfaces.interfacesIn «path_type» (now (bytes .entry)))) ⌝ }
+    ensures { λ r. ⌜ r
+        ≡ spec.interfaceCountOut
+        (interfaces.interfaceCount (dataplane.standard «path_type» (now (bytes .entry)))
+        (interfaces.interfacesIn «path_type» (now (bytes .entry)))) ⌝ }
 {
     interface_count_out(path_interfaces::interfaces_count(DataplanePath::new(path_type), bytes))
 }
@@ -107,7 +125,10 @@ pub extern "C" fn scion_interfaces_count(path_type: u8, bytes: &[u8]) -> ScionIn
 // Interface `index` in the order of travel, and its hop field.
 #[no_mangle]
 pub extern "C" fn scion_interface(path_type: u8, bytes: &[u8], index: usize) -> ScionInterface
-    ensures { λ r. ⌜ r ≡ spec.interfaceOut (interfaces.interfaceFound (dataplane.standard «path_type» (now (bytes .entry))) (interfaces.interfaceIn «path_type» (now (bytes .entry)) index)) ⌝ }
+    ensures { λ r. ⌜ r
+        ≡ spec.interfaceOut
+        (interfaces.interfaceFound (dataplane.standard «path_type» (now (bytes .entry)))
+        (interfaces.interfaceIn «path_type» (now (bytes .entry)) index)) ⌝ }
 {
     interface_out(path_interfaces::interface(DataplanePath::new(path_type), bytes, index))
 }
@@ -120,15 +141,10 @@ pub extern "C" fn scion_set_ingress_router_alert(
     index: usize,
     on: bool,
 ) -> ScionPathAnswer
-    ensures { λ r. ⌜ r ≡ spec.pathAnswerOut (dataplane.writtenAnswer (interfaces.alerted 1 on «path_type» (now (bytes .entry)) index)) ⌝ }
-    ensures { λ _. ⌜ now (bytes .exit) ≡ dataplane.contents (interfaces.alerted 1 on «path_type» (now (bytes .entry)) index) (now (bytes .entry)) ⌝ }
+    ensures { λ r. ⌜ r ≡ spec.pathAnswerOut (dataplane.writtenAnswer (dataplane.alerted 1 on «path_type» (now (bytes .entry)) index)) ⌝ }
+    ensures { λ _. ⌜ now (bytes .exit) ≡ dataplane.contents (dataplane.alerted 1 on «path_type» (now (bytes .entry)) index) (now (bytes .entry)) ⌝ }
 {
-    path_answer_out(path_interfaces::set_cons_ingress_router_alert(
-        DataplanePath::new(path_type),
-        bytes,
-        index,
-        on,
-    ))
+    path_answer_out(DataplanePath::new(path_type).set_cons_ingress_router_alert(bytes, index, on))
 }
 
 // Sets or clears the egress alert flag of hop field `index`.
@@ -139,24 +155,20 @@ pub extern "C" fn scion_set_egress_router_alert(
     index: usize,
     on: bool,
 ) -> ScionPathAnswer
-    ensures { λ r. ⌜ r ≡ spec.pathAnswerOut (dataplane.writtenAnswer (interfaces.alerted 0 on «path_type» (now (bytes .entry)) index)) ⌝ }
-    ensures { λ _. ⌜ now (bytes .exit) ≡ dataplane.contents (interfaces.alerted 0 on «path_type» (now (bytes .entry)) index) (now (bytes .entry)) ⌝ }
+    ensures { λ r. ⌜ r ≡ spec.pathAnswerOut (dataplane.writtenAnswer (dataplane.alerted 0 on «path_type» (now (bytes .entry)) index)) ⌝ }
+    ensures { λ _. ⌜ now (bytes .exit) ≡ dataplane.contents (dataplane.alerted 0 on «path_type» (now (bytes .entry)) index) (now (bytes .entry)) ⌝ }
 {
-    path_answer_out(path_interfaces::set_cons_egress_router_alert(
-        DataplanePath::new(path_type),
-        bytes,
-        index,
-        on,
-    ))
+    path_answer_out(DataplanePath::new(path_type).set_cons_egress_router_alert(bytes, index, on))
 }
 
 // A single move.
 #[no_mangle]
 pub extern "C" fn scion_move(path_type: u8, bytes: &mut [u8]) -> ScionPathAnswer
-    ensures { λ r. ⌜ r ≡ spec.pathAnswerOut (dataplane.pathAnswer (andThen (moves.move «path_type» (now (bytes .entry))) (dataplane.standard «path_type»))) ⌝ }
+    ensures { λ r. ⌜ r
+        ≡ spec.pathAnswerOut (dataplane.pathAnswer (andThen (moves.move «path_type» (now (bytes .entry))) (dataplane.standard «path_type»))) ⌝ }
     ensures { λ _. ⌜ now (bytes .exit) ≡ moves.moved «path_type» (now (bytes .entry)) ⌝ }
 {
-    path_answer_out(single_move(path_type, bytes))
+    path_answer_out(single_move(DataplanePath::new(path_type), bytes))
 }
 
 // A walk: moves until the last hop field or the limit.
@@ -165,7 +177,7 @@ pub extern "C" fn scion_walk(path_type: u8, bytes: &mut [u8], limit: usize) -> S
     ensures { λ r. ⌜ r ≡ spec.walkOut (moves.walkAnswer «path_type» (moves.walk «path_type» (now (bytes .entry)) limit)) ⌝ }
     ensures { λ _. ⌜ now (bytes .exit) ≡ moves.walked «path_type» (now (bytes .entry)) limit ⌝ }
 {
-    walk_out(walk(path_type, bytes, limit))
+    walk_out(walk(DataplanePath::new(path_type), bytes, limit))
 }
 
 // Copies the path to a destination of exactly its length. An empty path disregards its destination.
@@ -181,7 +193,8 @@ pub extern "C" fn scion_copy_path(path_type: u8, bytes: &[u8], dst: &mut [u8]) -
 #[no_mangle]
 pub extern "C" fn scion_reverse_path(path_type: u8, bytes: &[u8], dst: &mut [u8]) -> ScionPathAnswer
     ensures { λ r. ⌜ r ≡ spec.pathAnswerOut (dataplane.writtenAnswer (reversal.reverse «path_type» (now (bytes .entry)) (now (dst .entry)))) ⌝ }
-    ensures { λ _. ⌜ now (dst .exit) ≡ dataplane.contents (reversal.reverse «path_type» (now (bytes .entry)) (now (dst .entry))) (now (dst .entry)) ⌝ }
+    ensures { λ _. ⌜ now (dst .exit)
+        ≡ dataplane.contents (reversal.reverse «path_type» (now (bytes .entry)) (now (dst .entry))) (now (dst .entry)) ⌝ }
 {
-    path_answer_out(reverse_to_slice(path_type, bytes, dst))
+    path_answer_out(reverse_to_slice(DataplanePath::new(path_type), bytes, dst))
 }

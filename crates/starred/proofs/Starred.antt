@@ -1,6 +1,6 @@
 -- The starred inputs: one table, one theorem, by computing every row.
 -- Assumes nothing.
-use mathlib.Core.Path.{_≡_, refl}
+use mathlib.Core.Path.{refl}
 use Rattle.wire_encoding.specs.BigEndian.{bigEndian, bytesOf, numberAt, room}
 use Rattle.path_meta_header.specs.MetaHeader as meta
 use Rattle.path_fields.specs.Fields as fields
@@ -12,16 +12,16 @@ use Rattle.path_moves.specs.Moves as moves
 use Rattle.path_moves.specs.Rules as rules
 use Rattle.packet_common_header.specs.CommonHeader as common
 use Rattle.packet.specs.Raw as raw
-use Rattle.starred.specs.Table.{reading, splitting, expiring, interfaceOfTwoByTwo, moving, answers, wanted}
+use Rattle.starred.specs.Table.{reading, splitting, expiring, interfaceOfTwoByTwo, moving, answers, wanted, Starred}
 
-pub starred : answers ≡ wanted
+pub starred : Starred
 unfolding answers wanted reading splitting expiring interfaceOfTwoByTwo moving bigEndian bytesOf numberAt room
-    meta.nthField meta.metaOf meta.infoFieldsCount meta.hopFieldsCount meta.segmentOf meta.firstHopField meta.segmentLengthOf meta.pathLength
+    meta.nthField meta.metaOf meta.infoFieldsCount meta.hopFieldsCount meta.segmentOf meta.firstHopField meta.pathLength
     meta.interfacesCount meta.segmentOfLink meta.hopFieldOf meta.lengthsValid meta.hopValid meta.infoValid meta.checked meta.readMeta
     fields.infoFieldAt fields.hopFieldAt fields.expiryOffset fields.expiryTime
     standard.readPath dataplane.readDataplane dataplane.standard
-    expiry.least expiry.hopExpiry expiry.segmentExpiry expiry.pathExpiry expiry.expiryIn interfaces.interfaceOf interfaces.interfaceIn
-    rules.ownerOf rules.spared moves.changeInside moves.positionOf moves.moveFrom moves.atPosition moves.applied moves.movedMeta moves.takesIn moves.moveBytes
-    rules.peerings rules.peeringAllowed rules.stateOf rules.movable moves.notLast moves.move moves.moved
+    expiry.least expiry.hopExpiry expiry.segmentExpiry expiry.pathExpiry expiry.expiryIn interfaces.interfaceAt interfaces.interfaceIn
+    rules.ownerOf rules.spared rules.somePeering rules.peeringPath rules.peeringAllowed rules.movable
+    moves.takesIn moves.moveBytes moves.isLast moves.move moves.moved
     common.readCommon raw.readPacket
 starred = refl

@@ -1,13 +1,14 @@
 -- Document 01, "Inputs tried beside each border": the rows marked *, each by the definition that the call's contract cites.
 use Prim.Native.Nat.{ℕ}
+use mathlib.Core.Path.{_≡_}
 use mathlib.Core.List.{List, [], _∷_, _++_}
 use lib.ListN.{replicate}
-use Rattle.wire_encoding.specs.Result.{orElse, told}
+use Rattle.wire_encoding.specs.Result.{mapped, orElse}
 use Rattle.wire_encoding.specs.BigEndian.{bigEndian}
 use Rattle.errors.specs.Errors.{decodedOf, decodedNumber, decodedValue, answerOf, answerNumber}
-use Rattle.path.specs.Dataplane.{readDataplane}
+use Rattle.path.specs.Dataplane.{Extent, readDataplane}
 use Rattle.path_expiry.specs.Expiry.{expiryIn}
-use Rattle.path_interfaces.specs.Interfaces.{interfaceIn}
+use Rattle.path_interfaces.specs.Interfaces.{Place, interfaceIn}
 use Rattle.path_moves.specs.Moves.{move, moved}
 use Rattle.packet.specs.Raw.{readPacket}
 
@@ -15,7 +16,7 @@ use Rattle.packet.specs.Raw.{readPacket}
 unfoldable pub reading : List ℕ → List ℕ
 reading meta =
     let read = readDataplane 1 (meta ++ replicate 60 0) in
-    decodedNumber (decodedOf read) ∷ told read (λ path. path .length) (λ error. 0) ∷ []
+    decodedNumber (decodedOf read) ∷ orElse (mapped (λ (path : Extent). path .length) read) 0 ∷ []
 
 -- splitting a packet of these bytes: the answer's number, and its value
 unfoldable pub splitting : List ℕ → List ℕ
@@ -33,12 +34,14 @@ expiring time e =
 unfoldable pub interfaceOfTwoByTwo : ℕ → List ℕ
 interfaceOfTwoByTwo i =
     let found = interfaceIn 1 ((0x00 ∷ 0x00 ∷ 0x20 ∷ 0x80 ∷ []) ++ replicate 64 0) i in
-    answerNumber (answerOf found) ∷ told found (λ place. place .hop) (λ error. 0) ∷ []
+    answerNumber (answerOf found) ∷ orElse (mapped (λ (place : Place). place .hop) found) 0 ∷ []
 
--- a single move of a path of two hop fields in construction direction, accumulator 1111, first code A0 0B: the answer's number, and the accumulator
+-- a single move of a path of two hop fields in construction direction, accumulator 1111, first code A0 0B: the answer's number, and the
+-- accumulator
 unfoldable pub moving : List ℕ
 moving =
-    let path : List ℕ = (0x00 ∷ 0x00 ∷ 0x20 ∷ 0x00 ∷ 0x01 ∷ 0x00 ∷ 0x11 ∷ 0x11 ∷ []) ++ replicate 10 0 ++ (0xA0 ∷ 0x0B ∷ []) ++ replicate 16 0 in
+    let path : List ℕ =
+    (0x00 ∷ 0x00 ∷ 0x20 ∷ 0x00 ∷ 0x01 ∷ 0x00 ∷ 0x11 ∷ 0x11 ∷ []) ++ replicate 10 0 ++ (0xA0 ∷ 0x0B ∷ []) ++ replicate 16 0 in
     answerNumber (answerOf (move 1 path)) ∷ bigEndian 2 (moved 1 path) 6 ∷ []
 
 -- what is answered
@@ -76,3 +79,7 @@ wanted =
     ∷ (0 ∷ 2 ∷ [])
     ∷ (0 ∷ 0xB11A ∷ [])
     ∷ []
+
+-- every starred row is answered as document 01 says
+abbrev pub Starred : Type 0
+Starred = answers ≡ wanted

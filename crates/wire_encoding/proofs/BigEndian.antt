@@ -13,9 +13,9 @@ use lib.ListN.{length, getD, take, drop, length-append}
 use lib.Seq.{sets, sets-eq, getD-append-add, getD-append-seam, getD-take, getD-drop, length-take-le}
 use borrow.Author.Tests.{le-leb, lt-leb, leb-true, leb-false}
 use Rattle.wire_encoding.specs.Result.{Result, ok, refused, orElse}
-use Rattle.wire_encoding.specs.BigEndian.{bigEndian, bytesOf, room, numberAt, part}
+use Rattle.wire_encoding.specs.BigEndian.{bigEndian, bytesOf, room, numberAt, part, NumbersReadBack, BytesReadBack, NumbersBelow}
 use Rattle.wire_encoding.proofs.Result.{held, unmet}
-use Rattle.wire_encoding.proofs.Lists.{Bytes, part-last, sets-same}
+use Rattle.wire_encoding.proofs.Lists.{Bytes, bytes-append, part-last, sets-same}
 
 module _ (bytes : List ℕ) (b : Bytes bytes) (at : ℕ) where
   -- a number of `width` bytes is below 256 ^ width
@@ -76,7 +76,7 @@ length-bytesOf (suc width) n =
     length-append (bytesOf width (n / 256)) (n % 256 ∷ []) ∙ ap (λ (k : ℕ). k + 1) (length-bytesOf width (n / 256)) ∙ add-one width
 
 -- a number is read back from its bytes, whatever stands before and after them
-pub read-bytesOf : (width n : ℕ) (before after : List ℕ) → bigEndian width (before ++ (bytesOf width n ++ after)) (length before) ≡ n % 256 ^ width
+pub read-bytesOf : NumbersReadBack
 unfolding bigEndian bytesOf
 read-bytesOf zero n before after = sym (mod-one n)
 read-bytesOf (suc width) n before after =
@@ -104,7 +104,8 @@ read-written width n at l h =
     ∙ read-bytesOf width n (take at l) (drop (at + length (bytesOf width n)) l)
 
 -- the bytes of a number that was read are the bytes that were read
-pub bytes-read : (width : ℕ) (bytes : List ℕ) → Bytes bytes → (at : ℕ) → at + width ≤ length bytes → bytesOf width (bigEndian width bytes at) ≡ part at width bytes
+pub bytes-read : (width : ℕ) (bytes : List ℕ) → Bytes bytes → (at : ℕ) → at + width ≤ length bytes
+    → bytesOf width (bigEndian width bytes at) ≡ part at width bytes
 unfolding bigEndian bytesOf
 bytes-read zero bytes b at h = refl
 bytes-read (suc width) bytes b at h =
@@ -126,3 +127,41 @@ read-part (suc width) bytes p n at h =
     let e : getD (part p n bytes) (at + width) 0 ≡ getD bytes ((p + at) + width) 0 =
     getD-take n (drop p bytes) (at + width) 0 (omega arith) ∙ getD-drop p bytes (at + width) 0 ∙ ap (λ (i : ℕ). getD bytes i 0) (omega arith) in
     ap₂ (λ (x y : ℕ). x * 256 + y) (read-part width bytes p n at (omega arith)) e
+
+-- the bytes of a number are bytes
+pub bytes-bytesOf : (width n : ℕ) → Bytes (bytesOf width n)
+unfolding bytesOf
+bytes-bytesOf zero n = λ k. omega arith
+bytes-bytesOf (suc width) n = bytes-append (bytesOf width (n / 256)) (n % 256 ∷ []) (bytes-bytesOf width (n / 256)) last
+  where
+    last : Bytes (n % 256 ∷ [])
+    last zero = omega arith
+    last (suc k) = omega arith
+
+-- TWO LISTS WITH THE SAME NUMBER
+
+-- by its bytes
+pub number-by-getD : (x y : List ℕ) (width at : ℕ) → ((i : ℕ) → at ≤ i → i < at + width → getD x i 0 ≡ getD y i 0)
+    → bigEndian width x at ≡ bigEndian width y at
+unfolding bigEndian
+number-by-getD x y zero at h = refl
+number-by-getD x y (suc width) at h =
+    ap₂ (λ (a b : ℕ). a * 256 + b) (number-by-getD x y width at (λ i l r. h i l (omega arith))) (h (at + width) (omega arith) (omega arith))
+
+-- by a part that holds it
+pub number-by-part : (width at n : ℕ) (x y : List ℕ) (p q : ℕ) → at + width ≤ n → part p n x ≡ part q n y
+    → bigEndian width x (p + at) ≡ bigEndian width y (q + at)
+number-by-part width at n x y p q h e =
+    sym (read-part width x p n at h) ∙ ap (λ (l : List ℕ). bigEndian width l at) e ∙ read-part width y q n at h
+
+-- and the bytes by it
+pub part-by-number : (x y : List ℕ) → Bytes x → Bytes y → (width at : ℕ) → at + width ≤ length x → at + width ≤ length y
+    → bigEndian width x at ≡ bigEndian width y at → part at width x ≡ part at width y
+part-by-number x y bx by width at hx hy e = sym (bytes-read width x bx at hx) ∙ ap (bytesOf width) e ∙ bytes-read width y by at hy
+
+-- the theorems of the definitions' file that speak of bytes
+pub bytes-read-back : BytesReadBack
+bytes-read-back width bytes b at h = bytes-read width bytes (λ i. omega (arith, b i)) at h
+
+pub numbers-below : NumbersBelow
+numbers-below bytes b at width = below bytes (λ i. omega (arith, b i)) at width

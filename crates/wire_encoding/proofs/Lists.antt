@@ -1,12 +1,29 @@
 -- Parts of a list of bytes, and runs of bytes written over a part (`sets`).
 -- Assumes nothing.
 use mathlib.Core.Path.{_≡_, refl, sym, ap, _∙_}
+use mathlib.Core.Bool.{Bool, true, false}
 use mathlib.Core.List.{List, [], _∷_, _++_, append-nil}
-use Prim.Native.Nat.{ℕ, zero, suc, _+_, _≤_, _<_}
+use Prim.Native.Nat.{ℕ, zero, suc, _+_, _-_, _≤_, _<_}
 use native.Mathlib.Nat.{add-assoc, add-zero, add-suc, suc-add}
 use native.Mathlib.Omega.{arith}
+use lib.Dec.{ltb}
 use lib.ListN.{length, take, drop, getD, set, length-take, length-drop, drop-of-length-le, take-append-drop}
-use lib.Seq.{sets, sets-eq, set-comm, drop-cons, take-suc, getD-drop, getD-take, drop-drop, take-add, ext-getD}
+use lib.Seq.{
+  sets,
+  sets-eq,
+  set-comm,
+  drop-cons,
+  take-suc,
+  getD-drop,
+  getD-take,
+  drop-drop,
+  take-add,
+  ext-getD,
+  take-append-le,
+  drop-append-le,
+  drop-append-add,
+}
+use borrow.Author.Tests.{ltb-true, ltb-false}
 use mir.Val.{Fits}
 use mir.Syntax.{w8}
 use Rattle.wire_encoding.specs.BigEndian.{part}
@@ -102,3 +119,68 @@ part-part p n at m bytes h k =
     ∙ getD-part p n bytes (at + i) (omega arith)
     ∙ ap (λ (x : ℕ). getD bytes x 0) (sym (add-assoc p at i))
     ∙ sym (getD-part (p + at) m bytes i (omega arith)))
+
+-- PARTS OF TWO LISTS, ONE AFTER THE OTHER
+
+-- a part of the first list
+pub part-left : (at n : ℕ) (a b : List ℕ) → at + n ≤ length a → part at n (a ++ b) ≡ part at n a
+part-left at n a b h =
+    ap (take n) (drop-append-le at a b (omega arith)) ∙ take-append-le n (drop at a) b (simp length-drop (omega arith))
+
+-- a part of the second, after one of that size
+pub part-right : (size at n : ℕ) (a b : List ℕ) → length a ≡ size → part (size + at) n (a ++ b) ≡ part at n b
+part-right size at n a b e = ap (λ (s : ℕ). part (s + at) n (a ++ b)) (sym e) ∙ ap (take n) (drop-append-add a b at)
+
+-- a part of what is left after the first bytes
+pub part-drop : (from at n : ℕ) (x : List ℕ) → part at n (drop from x) ≡ part (from + at) n x
+part-drop from at n x = ap (take n) (drop-drop at from x)
+
+-- TWO LISTS WITH THE SAME BYTES
+
+-- by cases on a < b
+pub by-lt : {P : Type 0} (a b : ℕ) → (a < b → P) → (b ≤ a → P) → P
+by-lt {P} a b f g = go (ltb a b) refl
+  where
+    go : (t : Bool) → ltb a b ≡ t → P
+    go true e = f (ltb-true a b e)
+    go false e = g (ltb-false a b e)
+
+module _ (x y : List ℕ) where
+  -- a part that is the same has the same bytes
+  pub getD-by-part : (at n : ℕ) → part at n x ≡ part at n y → (i : ℕ) → at ≤ i → i < at + n → getD x i 0 ≡ getD y i 0
+  getD-by-part at n e i l h =
+      let q : at + (i - at) ≡ i = omega arith in
+      rw q at
+      (sym (getD-part at n x (i - at) (omega arith))
+      ∙ ap (λ (p : List ℕ). getD p (i - at) 0) e
+      ∙ getD-part at n y (i - at) (omega arith))
+
+  -- and the other way round
+  pub part-by-getD : (at n : ℕ) → at + n ≤ length x → at + n ≤ length y
+      → ((i : ℕ) → at ≤ i → i < at + n → getD x i 0 ≡ getD y i 0) → part at n x ≡ part at n y
+  part-by-getD at n hx hy h =
+      let lx : length (part at n x) ≡ n = length-part at n x hx in
+      let ly : length (part at n y) ≡ n = length-part at n y hy in
+      ext-getD 0 (part at n x) (part at n y) (lx ∙ sym ly)
+      (λ i l. getD-part at n x i (omega arith) ∙ h (at + i) (omega arith) (omega arith) ∙ sym (getD-part at n y i (omega arith)))
+
+-- LISTS OF BYTES
+
+pub bytes-append : (a b : List ℕ) → Bytes a → Bytes b → Bytes (a ++ b)
+bytes-append [] b ha hb k = hb k
+bytes-append (v ∷ a) b ha hb zero = ha zero
+bytes-append (v ∷ a) b ha hb (suc k) = bytes-append a b (λ i. ha (suc i)) hb k
+
+pub bytes-drop : (n : ℕ) (l : List ℕ) → Bytes l → Bytes (drop n l)
+bytes-drop n l h k = rw (getD-drop n l k 0) (h (n + k))
+
+pub bytes-set : (l : List ℕ) (i v : ℕ) → Bytes l → Fits w8 v → Bytes (set l i v)
+bytes-set [] i v old new k = old k
+bytes-set (x ∷ l) zero v old new zero = new
+bytes-set (x ∷ l) zero v old new (suc k) = old (suc k)
+bytes-set (x ∷ l) (suc i) v old new zero = old zero
+bytes-set (x ∷ l) (suc i) v old new (suc k) = bytes-set l i v (λ j. old (suc j)) new k
+
+pub bytes-sets : (xs l : List ℕ) (at : ℕ) → Bytes l → Bytes xs → Bytes (sets l at xs)
+bytes-sets [] l at old new = old
+bytes-sets (x ∷ xs) l at old new = bytes-sets xs (set l at x) (suc at) (bytes-set l at x old (new zero)) (λ k. new (suc k))

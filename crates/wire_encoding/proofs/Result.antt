@@ -45,3 +45,14 @@ module _ {E F A : Type 0} (among : E → F) where
   pub refusing-ok : (r : Result E A) {a : A} → refusing among r ≡ ok a → r ≡ ok a
   refusing-ok (ok a) h = rw (same-value h)
   refusing-ok (refused error) h = absurd (not-both h)
+
+module _ {E A B C D : Type 0} (step : A → Result E B) (f : A → B → C) (g : A → B → D) where
+  -- two chains of the same two steps are refused alike, whatever they make of the values
+  pub refused-alike : (r : Result E A) {error : E} → andThen r (λ a. andThen (step a) (λ b. ok (f a b))) ≡ refused error
+      → andThen r (λ a. andThen (step a) (λ b. ok (g a b))) ≡ refused error
+  refused-alike (ok a) h = go (step a) h
+    where
+      go : (s : Result E B) {error : E} → andThen s (λ b. ok (f a b)) ≡ refused error → andThen s (λ b. ok (g a b)) ≡ refused error
+      go (ok b) h = absurd (not-both (sym h))
+      go (refused e) h = cc
+  refused-alike (refused e) h = cc

@@ -22,6 +22,11 @@ _>>_ test rest = test rest
 abbrev pub _>>=_ : {E A B : Type 0} → Result E A → (A → Result E B) → Result E B
 _>>=_ step next = andThen step next
 
+-- the value put to a use; a refusal stays
+abbrev pub mapped : {E A B : Type 0} → (A → B) → Result E A → Result E B
+mapped f (ok a) = ok (f a)
+mapped f (refused error) = refused error
+
 -- the value, or what stands for it on a refusal
 abbrev pub orElse : {E A : Type 0} → Result E A → A → A
 orElse (ok a) other = a
@@ -32,7 +37,7 @@ abbrev pub refusing : {E F A : Type 0} → (E → F) → Result E A → Result F
 refusing among (ok a) = ok a
 refusing among (refused error) = refused (among error)
 
--- what is handed back of a value, and of a refusal
+-- an answer's case for a value, and for a refusal
 abbrev pub told : {E A B : Type 0} → Result E A → (A → B) → (E → B) → B
 told (ok a) value refusal = value a
 told (refused error) value refusal = refusal error

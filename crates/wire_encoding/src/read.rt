@@ -3,7 +3,7 @@ ghost use mathlib.Core.Path.{_≡_};
 ghost use Prim.Native.Nat.{_+_, _≤_, _<_};
 ghost use lib.ListN.{length};
 ghost use lib.Dec.{leb};
-ghost use Rattle.wire_encoding.specs.BigEndian.{bigEndian, numberAt};
+ghost use Rattle.wire_encoding.specs.BigEndian.{bigEndian, numberAt, part};
 ghost use Rattle.wire_encoding.specs.Answers.{answer16, answer32, answer64};
 ghost use Rattle.wire_encoding.specs.Result.{orElse};
 
@@ -40,6 +40,19 @@ pub(crate) fn has_room(len: usize, at: usize, n: usize) -> bool
         return false;
     }
     n <= len - at
+}
+
+// The `len` bytes from `start` on; where they reach beyond the end, what there is of them.
+pub fn part_of(bytes: &[u8], start: usize, len: usize) -> &[u8]
+    ensures { λ r. ⌜ now r ≡ part start len (now (bytes .entry)) ⌝ }
+{
+    if bytes.len() < start {
+        return &bytes[..0];
+    }
+    if bytes.len() - start < len {
+        return &bytes[start..];
+    }
+    &bytes[start..start + len]
 }
 
 // The number of `width` bytes at `at`, highest byte first.

@@ -1,4 +1,5 @@
--- An address header is read from its bytes as it was written, and written as the bytes that it was read from: two numbers of eight bytes, then each host from its own bytes.
+-- An address header is read from its bytes as it was written, and written as the bytes that it was read from: two numbers of eight
+-- bytes, then each host from its own bytes.
 -- Assumes nothing.
 use mathlib.Core.Path.{_≡_, sym, ap, ap₂, _∙_}
 use mathlib.Core.List.{List, [], _++_, append-assoc}
@@ -22,8 +23,7 @@ use Rattle.packet_address_header.specs.AddressHeader.{
   addressBytes,
 }
 use Rattle.packet_address_header.specs.declared.AddressHeader.{AddressHeader}
-use Rattle.packet_address_header.proofs.ReadingLaws.{kind-read, address-read}
-use Rattle.packet_address_header.proofs.WritingLaws.{Sixteen, length-hostBytes, length-addressBytes, four-runs}
+use Rattle.packet_address_header.proofs.AddressHeaderLaws.{kind-read, address-read, Sixteen, length-hostBytes, length-addressBytes}
 use Rattle.written_read.specs.WrittenRead.{hostRead, addressRead, PaddingZero}
 use Rattle.written_read.proofs.Hosts.{host-own, host-written}
 
@@ -32,7 +32,9 @@ use Rattle.written_read.proofs.Hosts.{host-own, host-written}
 -- its hosts are of the kinds that they were written by
 pub address-read-long : (a : AddressHeader) → addressLength (addressRead a) ≡ addressLength a
 unfolding addressLength addressRead hostRead
-address-read-long a = ap₂ lengthOfKinds (kind-read (kindOf (a .destination .host)) (hostBytes (a .destination)) 0) (kind-read (kindOf (a .source .host)) (hostBytes (a .source)) 0)
+address-read-long a =
+    ap₂ lengthOfKinds (kind-read (kindOf (a .destination .host)) (hostBytes (a .destination)) 0)
+    (kind-read (kindOf (a .source .host)) (hostBytes (a .source)) 0)
 
 module _ (a : AddressHeader) (after : List ℕ) (s : Sixteen a) where
   -- the four runs that are written, and the kinds of the hosts
@@ -55,7 +57,8 @@ module _ (a : AddressHeader) (after : List ℕ) (s : Sixteen a) where
   sk = kindOf (a .source .host)
 
   in-row : addressBytes a ++ after ≡ to ++ (from ++ (dst ++ (src ++ after)))
-  in-row = rw (four-runs a) (simp append-assoc)
+  unfolding addressBytes
+  in-row = simp append-assoc
 
   networks : length (to ++ from) ≡ 16
   networks = length-append to from ∙ ap₂ (λ (x y : ℕ). x + y) (length-bytesOf 8 _) (length-bytesOf 8 _)
@@ -101,14 +104,14 @@ module _ (a : AddressHeader) (after : List ℕ) (s : Sixteen a) where
 
 module _ (bytes : List ℕ) (destination source : ℕ) where
   pub address-written : Bytes bytes → lengthOfKinds destination source ≤ length bytes → PaddingZero destination bytes 16
-      → PaddingZero source bytes (16 + hostLength destination) → addressBytes (addressAt bytes destination source) ≡ take (lengthOfKinds destination source) bytes
-  unfolding addressAt lengthOfKinds
+      → PaddingZero source bytes (16 + hostLength destination)
+      → addressBytes (addressAt bytes destination source) ≡ take (lengthOfKinds destination source) bytes
+  unfolding addressAt addressBytes lengthOfKinds
   address-written b long destination-zero source-zero =
       let d : ℕ = hostLength destination in
       let s : ℕ = hostLength source in
       let sum : 8 + (8 + (d + s)) ≡ 16 + d + s = omega arith in
       rw (
-        four-runs (addressAt bytes destination source),
         bytes-read 8 bytes b 0 (omega arith),
         bytes-read 8 bytes b 8 (omega arith),
         host-written destination 16 bytes b (omega arith) destination-zero,

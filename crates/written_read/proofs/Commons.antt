@@ -1,4 +1,5 @@
--- A common header is read from its twelve bytes as it was written, and written as the twelve bytes that it was read from: each field has its own digits.
+-- A common header is read from its twelve bytes as it was written, and written as the twelve bytes that it was read from: each field
+-- has its own digits.
 -- Assumes nothing.
 use mathlib.Core.Path.{_≡_, ap, _∙_}
 use mathlib.Core.List.{List, [], _∷_, _++_}
@@ -13,21 +14,19 @@ use Rattle.wire_encoding.proofs.BigEndian.{below, bytes-read, read-bytesOf}
 use Rattle.wire_encoding.specs.Result.{ok}
 use Rattle.packet_common_header.specs.CommonHeader.{commonAt, readCommon, versionOf, factorOf, commonBytes}
 use Rattle.packet_common_header.specs.declared.CommonHeader.{CommonHeader}
-use Rattle.packet_common_header.proofs.CommonHeaderLaws.{Widths, first-fits}
+use Rattle.packet_common_header.proofs.CommonHeaderLaws.{Widths, Fields, first-fits}
 
 -- READ AS IT WAS WRITTEN
-
--- every field fits its bits
-pub record Fields (c : CommonHeader) : Type 0 where
-  pub widths : Widths c
-  pub class : c .«traffic_class» < 256
-  pub payload : c .«payload_length» < 2 ^ 16
-  pub reserved : c .reserved < 2 ^ 16
 
 common-accepted : (bytes : List ℕ) → versionOf bytes ≡ 0 → 12 ≤ length bytes → 9 ≤ factorOf bytes → readCommon bytes ≡ ok (commonAt bytes)
 unfolding readCommon
 common-accepted bytes version long factor =
-    rw (ne-eqb (length bytes) 0 (λ e. omega arith), eq-eqb (versionOf bytes) 0 version, le-leb 12 (length bytes) long, le-leb 9 (factorOf bytes) factor)
+    rw (
+      ne-eqb (length bytes) 0 (λ e. omega arith),
+      eq-eqb (versionOf bytes) 0 version,
+      le-leb 12 (length bytes) long,
+      le-leb 9 (factorOf bytes) factor,
+    )
 
 module _ (c : CommonHeader) (after : List ℕ) (f : Fields c) where
   -- the number of the first four bytes
@@ -36,7 +35,7 @@ module _ (c : CommonHeader) (after : List ℕ) (f : Fields c) where
 
   first-read : bigEndian 4 (commonBytes c ++ after) 0 ≡ first
   unfolding commonBytes bytesOf
-  first-read = read-bytesOf 4 first [] _ ∙ mod-eq-of-lt (first-fits c (f .widths) (f .class))
+  first-read = read-bytesOf 4 first [] _ ∙ mod-eq-of-lt (first-fits c f)
 
   payload-read : bigEndian 2 (commonBytes c ++ after) 6 ≡ c .«payload_length»
   unfolding commonBytes bytesOf

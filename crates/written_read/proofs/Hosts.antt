@@ -1,4 +1,5 @@
--- A host is read from its own bytes alone, and written as the bytes that it was read from: sixteen bytes that begin with them keep them, and a service is its two bytes.
+-- A host is read from its own bytes alone, and written as the bytes that it was read from: sixteen bytes that begin with them keep
+-- them, and a service is its two bytes.
 -- Assumes nothing.
 use mathlib.Core.Path.{_≡_, refl, sym, ap, ap₂, _∙_}
 use mathlib.Core.Bool.{Bool, true, false, cond}
@@ -15,11 +16,11 @@ use Rattle.wire_encoding.proofs.Lists.{Bytes, length-part, part-join}
 use Rattle.wire_encoding.proofs.BigEndian.{below, bytes-read, read-bytesOf}
 use Rattle.address.specs.declared.host.HostAddr.the-variants.{V4, V6, Svc}
 use Rattle.packet_common_header.specs.CommonHeader.{hostLength}
-use Rattle.packet_address_header.specs.AddressHeader.{kindOf, hostOfKind, padded, hostAt, serviceBytes, rawOf, hostOnWire, wireHostBytes, hostBytes}
+use Rattle.packet_address_header.specs.AddressHeader.{kindOf, hostOfKind, padded, hostAt, hostBytesOf, hostBytes}
 use Rattle.packet_address_header.specs.declared.MaybeEncoded.the-variants.{Decoded, Encoded}
 use Rattle.packet_address_header.specs.declared.HostAddress.{HostAddress}
 use Rattle.packet_common_header.proofs.CommonHeaderLaws.{host-few}
-use Rattle.packet_address_header.proofs.ReadingLaws.{kind-of-kind}
+use Rattle.packet_address_header.proofs.AddressHeaderLaws.{kind-of-kind}
 use Rattle.written_read.specs.WrittenRead.{hostRead, HostsReadBack, PaddingZero}
 
 -- THE TWO FORMS OF A HOST THAT IS READ
@@ -61,19 +62,20 @@ module _ (before own after : List ℕ) (kind : ℕ) (size : length own ≡ hostL
 
 -- WRITTEN AS IT WAS READ
 
--- a host that is no service: its bytes
-raw-of-kind : (kind : ℕ) (bytes : List ℕ) → rawOf (hostOfKind kind) bytes ≡ bytes
-unfolding rawOf hostOfKind
-raw-of-kind kind bytes = go (eqb kind 0) (eqb kind 3)
+-- a host that is no service: the first of its bytes
+bytes-of-kind : (kind : ℕ) (bytes : List ℕ) → hostBytesOf (hostOfKind kind) bytes ≡ take (hostLength kind) bytes
+unfolding hostBytesOf hostOfKind hostLength
+bytes-of-kind kind bytes = go (eqb kind 0) (eqb kind 3) refl refl
   where
-    go : (z t : Bool) → rawOf (cond z (Decoded V4) (cond t (Decoded V6) (Encoded kind))) bytes ≡ bytes
-    go true t = refl
-    go false true = refl
-    go false false = refl
+    go : (z t : Bool) → eqb kind 0 ≡ z → eqb kind 3 ≡ t
+        → hostBytesOf (cond z (Decoded V4) (cond t (Decoded V6) (Encoded kind))) bytes ≡ take (hostLength kind) bytes
+    go true t ez et = ap (λ (k : ℕ). take (hostLength k) bytes) (sym (eqb-true kind 0 ez))
+    go false true ez et = ap (λ (k : ℕ). take (hostLength k) bytes) (sym (eqb-true kind 3 et))
+    go false false ez et = refl
 
 -- a service's four bytes
 service-bytes : (number : ℕ) → hostBytes (serviceHost number) ≡ bytesOf 2 number ++ (0 ∷ 0 ∷ [])
-unfolding hostBytes wireHostBytes hostOnWire rawOf serviceBytes kindOf hostLength bytesOf
+unfolding hostBytes hostBytesOf
 service-bytes number = refl
 
 service-part : (at : ℕ) (bytes : List ℕ) → Bytes bytes → at + 4 ≤ length bytes → part (at + 2) 2 bytes ≡ 0 ∷ 0 ∷ []
@@ -94,10 +96,8 @@ module _ (kind at : ℕ) (bytes : List ℕ) (inside : at + hostLength kind ≤ l
       ∙ take-at own (drop (0 + length own) (replicate 16 0)) (hostLength kind) size
 
   other-bytes : hostBytes (otherHost kind bytes at) ≡ part at (hostLength kind) bytes
-  unfolding hostBytes wireHostBytes hostOnWire
-  other-bytes =
-      ap₂ (λ (k : ℕ) (raw : List ℕ). take (hostLength k) raw) (kind-of-kind kind) (raw-of-kind kind (padded bytes at (hostLength kind)))
-      ∙ padded-take
+  unfolding hostBytes
+  other-bytes = bytes-of-kind kind (padded bytes at (hostLength kind)) ∙ padded-take
 
 pub host-written : (kind at : ℕ) (bytes : List ℕ) → Bytes bytes → at + hostLength kind ≤ length bytes → PaddingZero kind bytes at
     → hostBytes (hostAt kind bytes at) ≡ part at (hostLength kind) bytes
@@ -129,7 +129,7 @@ service-read number narrow =
     rw (service-bytes number, again)
 
 pub hosts-read-back : HostsReadBack
-hosts-read-back kind at bytes narrow small inside = go (eqb kind 4) refl
+hosts-read-back kind at bytes small inside = go (eqb kind 4) refl
   where
     go : (t : Bool) → eqb kind 4 ≡ t → hostRead (hostAt kind bytes at) ≡ hostAt kind bytes at
     go true e = rw (host-service kind bytes at e) (service-read (bigEndian 2 bytes at) (below bytes (λ i. record { fits = small i }) at 2))

@@ -24,4 +24,4 @@ in-order bytes p read =
     ∙ sym (part-join 0 12 (n + (m + k)) bytes)
     ∙ ap (λ (l : List ℕ). take 12 bytes ++ l) (sym (part-join 12 n (m + k) bytes))
     ∙ ap (λ (l : List ℕ). take 12 bytes ++ (part 12 n bytes ++ l))
-    (sym (part-join (12 + n) m k bytes) ∙ ap₂ (λ (x y : List ℕ). x ++ y) (path-lies s .1) (payload-lies s .1))
+    (sym (part-join (12 + n) m k bytes) ∙ ap₂ (λ (x y : List ℕ). x ++ y) (path-lies s) (payload-lies s))

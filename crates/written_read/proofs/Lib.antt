@@ -5,4 +5,3 @@ pub mod InOrder
 pub mod ReadsBack
 pub mod WritesAgain
 pub mod NewHeaders
-pub mod Examples

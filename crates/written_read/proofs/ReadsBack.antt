@@ -1,4 +1,5 @@
--- Headers that were written and fill their length are read back: they end at 4 × factor, so each stage of the reading sees exactly what was written for it.
+-- Headers that were written and fill their length are read back: they end at 4 × factor, so each stage of the reading sees exactly
+-- what was written for it.
 -- Assumes nothing.
 use mathlib.Core.Path.{_≡_, refl, sym, ap, _∙_}
 use mathlib.Core.List.{List, _++_, append-assoc}
@@ -7,22 +8,23 @@ use native.Mathlib.Omega.{arith}
 use lib.ListN.{length, take, drop, length-append}
 use lib.Seq.{take-at, drop-at}
 use borrow.Author.Tests.{le-leb, eq-eqb}
-use Rattle.wire_encoding.specs.Result.{ok}
+use Rattle.wire_encoding.specs.Result.{Result, ok}
 use Rattle.wire_encoding.proofs.Result.{same-value}
+use Rattle.errors.specs.declared.packet_error.DecodeError.{DecodeError}
 use Rattle.path_meta_header.specs.declared.PathMetaHeader.{PathMetaHeader}
 use Rattle.path.specs.Dataplane.{readDataplane}
 use Rattle.packet_common_header.specs.CommonHeader.{readCommon, headerLength, hostLength, commonBytes}
 use Rattle.packet_address_header.specs.AddressHeader.{addressLength, lengthOfKinds, readAddress, addressBytes}
 use Rattle.packet_common_header.specs.declared.CommonHeader.{CommonHeader}
 use Rattle.packet_address_header.specs.declared.AddressHeader.{AddressHeader}
-use Rattle.packet_common_header.proofs.CommonHeaderLaws.{common-widths, length-commonBytes}
-use Rattle.packet_address_header.proofs.WritingLaws.{Sixteen, length-addressBytes}
+use Rattle.packet_common_header.proofs.CommonHeaderLaws.{length-commonBytes, common-widths, Fields}
+use Rattle.packet_address_header.proofs.AddressHeaderLaws.{Sixteen, length-addressBytes}
 use Rattle.packet.specs.Raw.{readPacket}
 use Rattle.packet_headers.specs.Headers.{addedBytes, headersLength, commonOf, headerBytes}
 use Rattle.packet_headers.specs.declared.ScionHeaders.{ScionHeaders}
 use Rattle.packet_headers.proofs.Headers.{Known, known, length-headerBytes}
 use Rattle.written_read.specs.WrittenRead.{Typed, Fills, addressRead, packetOf, ReadsBack}
-use Rattle.written_read.proofs.Commons.{Fields, common-read}
+use Rattle.written_read.proofs.Commons.{common-read}
 use Rattle.written_read.proofs.Addresses.{address-read-long, address-back}
 
 -- a packet whose stages all accept is read
@@ -55,7 +57,7 @@ module _ (h : ScionHeaders) (path : List ℕ) (m : PathMetaHeader) (size : ℕ) 
   packet = headerBytes h path ++ (payload ++ after)
 
   sixteen : Sixteen (h .address)
-  sixteen = record { destination-sixteen = t .destination .sixteen; source-sixteen = t .source .sixteen }
+  sixteen = record { destination-sixteen = t .destination; source-sixteen = t .source }
 
   fields : Fields (commonOf h)
   unfolding commonOf
@@ -81,19 +83,26 @@ module _ (h : ScionHeaders) (path : List ℕ) (m : PathMetaHeader) (size : ℕ) 
       ap readCommon (append-assoc x (y ++ z) (payload ++ after))
       ∙ common-read (commonOf h) ((y ++ z) ++ (payload ++ after)) fields (f .version) (omega (arith, f .full, long-enough))
 
-  reads-address : readAddress (drop 12 (headerBytes h path)) (commonOf h .«destination_kind») (commonOf h .«source_kind») ≡ ok (addressRead (h .address))
+  -- the address header, by the hosts' own kinds
+  abbrev by-kinds : List ℕ → Result DecodeError AddressHeader
+  by-kinds l = readAddress l (commonOf h .«destination_kind») (commonOf h .«source_kind»)
+
+  reads-address : by-kinds (drop 12 (headerBytes h path)) ≡ ok (addressRead (h .address))
   unfolding commonOf headerBytes
   reads-address =
-      ap (λ (l : List ℕ). readAddress l (commonOf h .«destination_kind») (commonOf h .«source_kind»)) (drop-at x (y ++ z) 12 (length-commonBytes (commonOf h)))
+      ap by-kinds (drop-at x (y ++ z) 12 (length-commonBytes (commonOf h)))
       ∙ address-back (h .address) z sixteen (t .destination-ia) (t .source-ia)
 
-  sees-path : drop (12 + addressLength (addressRead (h .address))) (headerBytes h path) ≡ z
+  -- the path, after it
+  abbrev n : ℕ
+  n = addressLength (addressRead (h .address))
+
+  sees-path : drop (12 + n) (headerBytes h path) ≡ z
   unfolding headerBytes
   sees-path =
       let one : length x ≡ 12 = length-commonBytes (commonOf h) in
-      let two : length y ≡ addressLength (addressRead (h .address)) = length-addressBytes (h .address) sixteen ∙ sym (address-read-long (h .address)) in
-      ap (drop (12 + addressLength (addressRead (h .address)))) (sym (append-assoc x y z))
-      ∙ drop-at (x ++ y) z (12 + addressLength (addressRead (h .address))) (simp length-append (omega arith))
+      let two : length y ≡ n = length-addressBytes (h .address) sixteen ∙ sym (address-read-long (h .address)) in
+      ap (drop (12 + n)) (sym (append-assoc x y z)) ∙ drop-at (x ++ y) z (12 + n) (simp length-append (omega arith))
 
   all-read : readPacket packet ≡ ok (packetOf h path m payload)
   unfolding packetOf commonOf

@@ -1,4 +1,5 @@
--- A packet that was read is written again as the bytes before its payload: each header as the bytes that it was read from, then the path's own bytes.
+-- A packet that was read is written again as the bytes before its payload: each header as the bytes that it was read from, then the
+-- path's own bytes.
 -- Assumes nothing.
 use mathlib.Core.Path.{_≡_, refl, sym, ap, _∙_}
 use mathlib.Core.Bool.{Bool, true, false, cond}
@@ -8,50 +9,32 @@ use native.Mathlib.Omega.{arith}
 use lib.ListN.{length, take, drop}
 use lib.Seq.{take-take}
 use lib.Dec.{eqb}
-use borrow.Author.Tests.{lt-ltb, le-leb, eq-eqb, ne-eqb}
 use Rattle.wire_encoding.specs.Result.{Result, ok}
 use Rattle.wire_encoding.specs.BigEndian.{part}
 use Rattle.wire_encoding.proofs.Result.{same-value}
 use Rattle.wire_encoding.proofs.Lists.{Bytes, part-part, part-join, bytes-part}
 use Rattle.errors.specs.declared.packet_error.DecodeError.{DecodeError}
 use Rattle.path.specs.Dataplane.{Extent, headless, readDataplane}
-use Rattle.packet_common_header.specs.CommonHeader.{commonAt, headerLength, hostLength, commonBytes, fieldsFit, commonFits}
+use Rattle.packet_common_header.specs.CommonHeader.{commonAt, headerLength, hostLength, commonBytes, commonFits}
 use Rattle.packet_common_header.specs.declared.CommonHeader.{CommonHeader}
-use Rattle.packet_common_header.proofs.CommonHeaderLaws.{common-known, Widths}
+use Rattle.packet_common_header.proofs.CommonHeaderLaws.{common-known, widths-fit}
 use Rattle.packet_address_header.specs.AddressHeader.{kindOf, addressAt, lengthOfKinds, addressLength, addressBytes}
 use Rattle.packet_address_header.specs.declared.AddressHeader.{AddressHeader}
-use Rattle.packet_address_header.proofs.ReadingLaws.{kind-read, address-length, AddressKnown, address-known}
+use Rattle.packet_address_header.proofs.AddressHeaderLaws.{kind-read, address-length, AddressKnown, address-known}
 use Rattle.packet.specs.Raw.{Packet, pathPart, payloadPart}
 use Rattle.packet.proofs.RawLaws.{Split, split, where-found, end-inside, sees, start-inside, path-lies}
 use Rattle.packet_headers.specs.Headers as headers
 use Rattle.packet_headers.specs.Headers.{addedBytes, addedLength, headersLength, headerBytes, writeHeaders}
-use Rattle.packet_headers.specs.declared.ScionHeaders.{ScionHeaders}
-use Rattle.packet_headers.proofs.Headers.{length-addedBytes}
+use Rattle.packet_headers.proofs.Headers.{headers-written, length-addedBytes}
 use Rattle.written_read.specs.WrittenRead.{headersOf, PaddingZero, WritesAgain}
 use Rattle.written_read.proofs.Commons.{common-fields, common-written}
 use Rattle.written_read.proofs.Addresses.{address-written}
 
--- WHAT THE ENCODER ACCEPTS
-
-encodes : (h : ScionHeaders) (path : List ℕ) (size : ℕ) → Widths (headers.commonOf h) → 1 ≤ h .«header_length_factor» → h .«header_length_factor» ≤ 255
-    → h .«payload_length» ≤ 65535 → size ≡ headersLength (h .address) (h .«path_type») (length path) → writeHeaders h path size ≡ ok (headerBytes h path)
-unfolding writeHeaders commonFits fieldsFit
-encodes h path size w some factor payload exact =
-    rw (
-      lt-ltb _ _ (w .version),
-      lt-ltb _ _ (w .flow),
-      lt-ltb _ _ (w .destination),
-      lt-ltb _ _ (w .source),
-      ne-eqb (h .«header_length_factor») 0 (λ e. omega arith),
-      le-leb (h .«header_length_factor») 255 factor,
-      le-leb (h .«payload_length») 65535 payload,
-      eq-eqb size _ exact,
-    )
-
 -- THE PATH
 
 -- type 0 adds no bytes, and a path of type 0 that was read whole has none
-added-whole : (type : ℕ) (path : List ℕ) {read : Extent} → readDataplane type path ≡ ok read → read .length ≡ length path → addedBytes type path ≡ path
+added-whole : (type : ℕ) (path : List ℕ) {read : Extent} → readDataplane type path ≡ ok read → read .length ≡ length path
+    → addedBytes type path ≡ path
 unfolding addedBytes readDataplane
 added-whole type path {read} h whole = go (eqb type 0) path _ h whole
   where
@@ -113,8 +96,9 @@ module _ (bytes : List ℕ) (b : Bytes bytes) (p : Packet) (s : Split bytes p) w
       let payload = ap (λ (c : CommonHeader). c .«payload_length») (known .fields) in
       let added : addedLength (p .common .«path_type») (length path) ≡ length path =
       sym (length-addedBytes (p .common .«path_type») path) ∙ ap length path-added in
-      encodes (headersOf p) path (12 + n + length path) (rw (common-again, known .fields) (fields .widths))
-      (omega (arith, known .factor, factor)) (omega (arith, b 5 .fits, factor)) (omega (arith, fields .payload, payload))
+      headers-written (headersOf p) path (12 + n + length path)
+      (ap commonFits (common-again ∙ known .fields) ∙ widths-fit (commonAt bytes) (fields .widths))
+      (λ none. omega (arith, known .factor, factor)) (omega (arith, b 5 .fits, factor)) (omega (arith, fields .payload, payload))
       (omega (arith, added))
 
   -- the padding bytes as the address header sees them
@@ -149,7 +133,7 @@ module _ (bytes : List ℕ) (b : Bytes bytes) (p : Packet) (s : Split bytes p) w
         let common : commonBytes (headers.commonOf (headersOf p)) ≡ take 12 bytes =
         ap commonBytes (common-again ∙ known .fields) ∙ common-written bytes b (known .long) in
         rw (common, address-again, path-added)
-        (ap (λ (l : List ℕ). take 12 bytes ++ (part 12 n bytes ++ l)) (sym (path-lies s .1))
+        (ap (λ (l : List ℕ). take 12 bytes ++ (part 12 n bytes ++ l)) (sym (path-lies s))
         ∙ ap (λ (l : List ℕ). take 12 bytes ++ l) (part-join 12 n (length path) bytes)
         ∙ part-join 0 12 (n + length path) bytes
         ∙ ap (λ (m : ℕ). take m bytes) sum)

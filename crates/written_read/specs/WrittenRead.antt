@@ -1,19 +1,19 @@
 -- Reading what was written gives the values back; writing again what was read gives the bytes back. The definitions are those that
 -- the contracts of the packet's split and of the encoder cite.
-use Prim.Native.Nat.{ℕ, _+_, _*_, _^_, _≤_, _<_}
+use Prim.Native.Nat.{ℕ, _+_, _*_, _%_, _^_, _≤_, _<_}
 use mathlib.Core.Path.{_≡_}
 use mathlib.Core.List.{List, [], _∷_, _++_}
-use lib.ListN.{length, getD, take}
-use Rattle.wire_encoding.specs.Result.{ok}
+use lib.ListN.{length, getD, take, drop}
+use Rattle.wire_encoding.specs.Result.{ok, mapped}
 use Rattle.wire_encoding.specs.BigEndian.{part}
 use Rattle.path_meta_header.specs.declared.PathMetaHeader.{PathMetaHeader}
 use Rattle.path.specs.Dataplane.{readDataplane}
 use Rattle.packet_common_header.specs.CommonHeader.{hostLength}
-use Rattle.packet_address_header.specs.AddressHeader.{kindOf, hostAt, addressLength, hostBytes}
+use Rattle.packet_address_header.specs.AddressHeader.{kindOf, hostAt, addressLength, zeroAddress, hostBytes}
 use Rattle.packet_address_header.specs.declared.HostAddress.{HostAddress}
 use Rattle.packet_address_header.specs.declared.AddressHeader.{AddressHeader}
 use Rattle.packet.specs.Raw.{Packet, readPacket, payloadPart}
-use Rattle.packet_headers.specs.Headers.{addedBytes, headersLength, commonOf, writeHeaders}
+use Rattle.packet_headers.specs.Headers.{addedBytes, addedLength, headersLength, newHeaders, commonOf, headerBytes, writeHeaders}
 use Rattle.packet_headers.specs.declared.ScionHeaders.{ScionHeaders}
 
 -- A PACKET IN ORDER
@@ -27,29 +27,26 @@ InOrder =
 
 -- READING WHAT WAS WRITTEN
 
--- what the types of the fields say
-pub record TypedHost (a : HostAddress) : Type 0 where
-  pub sixteen : length (a .bytes) ≡ 16
-  pub bytes : (i : ℕ) → getD (a .bytes) i 0 < 256
-
+-- what the types of the fields say, as far as it is needed
 pub record Typed (h : ScionHeaders) : Type 0 where
   pub traffic-class : h .«traffic_class» < 256
-  pub next-header : h .«next_header» < 256
-  pub path-type : h .«path_type» < 256
   pub reserved : h .reserved < 2 ^ 16
   pub destination-ia : h .address .«destination_ia» .0 < 2 ^ 64
   pub source-ia : h .address .«source_ia» .0 < 2 ^ 64
-  pub destination : TypedHost (h .address .destination)
-  pub source : TypedHost (h .address .source)
+  pub destination : length (h .address .destination .bytes) ≡ 16
+  pub source : length (h .address .source .bytes) ≡ 16
+
+-- a path that is read whole, under its header
+abbrev pub ReadWhole : ℕ → List ℕ → PathMetaHeader → Type 0
+ReadWhole type path m = readDataplane type path ≡ ok (record { header = m; length = length path })
 
 -- headers that fill their length: their version is the one that is read, 4 × factor is the length that is written, and the path is
 -- read whole. Others aren't read back: a factor that was rounded down leaves the last bytes of the path to the payload, and a larger
 -- one takes bytes from it.
 pub record Fills (h : ScionHeaders) (path : List ℕ) (m : PathMetaHeader) : Type 0 where
   pub version : h .version ≡ 0
-  pub full : h .«header_length_factor» * 4 ≡ headersLength (h .address) (h .«path_type») (length path)
-  pub path-read :
-      readDataplane (h .«path_type») (addedBytes (h .«path_type») path) ≡ ok (record { header = m; length = length (addedBytes (h .«path_type») path) })
+  pub full : 4 * h .«header_length_factor» ≡ headersLength (h .address) (h .«path_type») (length path)
+  pub path-read : ReadWhole (h .«path_type») (addedBytes (h .«path_type») path) m
 
 -- a host as reading hands it back: by its kind, the bytes after its own zero
 unfoldable pub hostRead : HostAddress → HostAddress
@@ -75,17 +72,45 @@ packetOf h path m payload =
       payload = payload;
     }
 
--- whatever follows the payload
+-- headers that were written, and a payload of their length, are read back, whatever follows the payload
 abbrev pub ReadsBack : Type 0
 ReadsBack =
     (h : ScionHeaders) (path : List ℕ) (m : PathMetaHeader) (size : ℕ) (written payload after : List ℕ) → Typed h → Fills h path m
     → writeHeaders h path size ≡ ok written → length payload ≡ h .«payload_length»
     → readPacket (written ++ (payload ++ after)) ≡ ok (packetOf h path m payload)
 
+-- NEW HEADERS
+
+-- they fill their length exactly where their path adds a multiple of 4 bytes
+abbrev pub NewHeadersFull : Type 0
+NewHeadersFull =
+    (a : AddressHeader) (type n next payload flow : ℕ)
+    → let full : Type 0 = 4 * newHeaders a type n next payload flow .«header_length_factor» ≡ headersLength a type n in
+    (addedLength type n % 4 ≡ 0 → full) × (full → addedLength type n % 4 ≡ 0)
+
+-- those of an empty path, and of a standard path that is read whole, do
+abbrev pub NewHeadersFill : Type 0
+NewHeadersFill =
+    (a : AddressHeader) (type : ℕ) (path : List ℕ) (m : PathMetaHeader) (next payload flow : ℕ) → type < 2
+    → ReadWhole type (addedBytes type path) m → Fills (newHeaders a type (length path) next payload flow) path m
+
+-- those of an opaque path of 3 bytes don't: they are written with factor 9, and a reader finds a path of no bytes, then the 3 bytes
+abbrev pub RoundedDown : Type 0
+RoundedDown =
+    let path : List ℕ = 7 ∷ 8 ∷ 9 ∷ [] in
+    let h = newHeaders zeroAddress 2 3 17 0 1 in
+    let bytes = headerBytes h path in
+    (h .«header_length_factor» ≡ 9)
+    × (writeHeaders h path 39 ≡ ok bytes)
+    × (mapped (λ (p : Packet). p .path-bytes) (readPacket bytes) ≡ ok [])
+    × (drop 36 bytes ≡ path)
+
+-- HOSTS
+
 -- a host that was read is read back as it is
 abbrev pub HostsReadBack : Type 0
 HostsReadBack =
-    (kind at : ℕ) (bytes : List ℕ) → kind < 16 → ((i : ℕ) → getD bytes i 0 < 256) → at + hostLength kind ≤ length bytes
+    (kind at : ℕ) (bytes : List ℕ) → ((i : ℕ) → getD bytes i 0 < 256) → at + hostLength kind ≤ length bytes
     → hostRead (hostAt kind bytes at) ≡ hostAt kind bytes at
 
 -- WRITING AGAIN WHAT WAS READ

@@ -32,9 +32,10 @@ execute-all-requires c κs = search needs
 
 keep-rest-requires : tie.Need-keep-rest-requires
 keep-rest-requires c κs =
-    let start = c .before .before .before .before .before .before in
+    let end = c .before .before .before in
+    let start = end .before .before .before in
     let seen = length-take-le (start .args .filled) (start .args .input .now) (start .pre) in
-    (omega (arith, c .before .before .before .last-line-end .ensures, seen), start .pre)
+    (omega (arith, end .last-line-end .ensures, seen), start .pre)
 
 same-length : tie.Need-same-length
 same-length c = search needs

@@ -1,7 +1,7 @@
 -- `raw_host_address` meets its contract: the bytes fit in the sixteen, so all of them are written.
 use mathlib.Core.Path.{_∙_}
 use native.Mathlib.Omega.{arith}
-use Rattle.packet_address_header.proofs.ReadingLaws.{padded-placed}
+use Rattle.packet_address_header.proofs.AddressHeaderLaws.{padded-placed}
 use borrow.Author.Needs.{needs}
 use Rattle.packet_address_header.proofs.raw_host_address.Statement.{statement}
 use Rattle.packet_address_header.proofs.raw_host_address.Tie as tie

@@ -42,7 +42,11 @@ loop-less : tie.Need-loop-less Inv-loop μ-loop
 loop-less c = search needs
 
 loop-again : tie.Need-loop-again Inv-loop μ-loop
-loop-again c = (search needs, rw (least-more, ← c .before .before .before .loop .inv .1, ← c .before .segment-expiry2 .ensures .0) (c .lesser .ensures), search needs)
+loop-again c = (
+  search needs,
+  rw (least-more, ← c .before .before .before .loop .inv .1, ← c .before .segment-expiry2 .ensures .0) (c .lesser .ensures),
+  search needs,
+)
 
 returns : tie.Need-returns Inv-loop μ-loop
 unfolding spec.pathExpiry

@@ -1,10 +1,11 @@
--- `segment_expiry` meets its contract: the segment's fields lie in the path's bytes, and its least expiry byte under its timestamp gives its least expiry.
-use borrow.Author.Needs.{needs}
+-- `segment_expiry` meets its contract: the segment's fields lie in the path's bytes, and its least expiry byte under its timestamp gives its
+-- least expiry.
 use native.Mathlib.Nat.{add-sub-cancel-left}
 use native.Mathlib.Omega.{arith}
 use lib.ListN.{length-take, length-drop}
 use Rattle.path.proofs.Segment.{Inside, inside}
 use Rattle.path_expiry.proofs.ExpiryLaws.{expiry-by-run}
+use borrow.Author.Needs.{needs}
 use Rattle.path_expiry.proofs.segment_expiry.Statement.{statement}
 use Rattle.path_expiry.proofs.segment_expiry.Tie as tie
 
@@ -12,23 +13,17 @@ use Rattle.path_expiry.proofs.segment_expiry.Tie as tie
 lies : (c : tie.Start) → Inside (c .args .bytes .now) (c .args .meta-header) (c .args .k)
 lies c = inside _ _ _ (c .pre .0) (c .pre .1)
 
-info-fields-count-requires : tie.Need-info-fields-count-requires
-info-fields-count-requires c κs = search needs
+hop-fields-start-requires : tie.Need-hop-fields-start-requires
+hop-fields-start-requires c κs = search needs
+
+first-hop-field-requires : tie.Need-first-hop-field-requires
+first-hop-field-requires c κs = search needs
 
 mul-first : tie.Need-mul-first
 mul-first c = search needs
 
 add-first : tie.Need-add-first
 add-first c = search needs
-
-first-hop-field-requires : tie.Need-first-hop-field-requires
-first-hop-field-requires c κs = search needs
-
-mul-first-2 : tie.Need-mul-first-2
-mul-first-2 c = search needs
-
-add-first-2 : tie.Need-add-first-2
-add-first-2 c = search needs
 
 segment-length-requires : tie.Need-segment-length-requires
 segment-length-requires c κs = search needs
@@ -59,25 +54,28 @@ part-least-exp-time-end c = omega (arith, lies (c .before .before .before .befor
 
 least-exp-time-requires : tie.Need-least-exp-time-requires
 least-exp-time-requires c κs =
-    let l = lies (c .before .before .before .before .before .before) in
-    simp (length-take, length-drop) (omega (arith, l .hops, l .one))
+    let from = c .before .before .before .before in
+    let start = from .before .before in
+    simp (length-take, length-drop) (omega (arith, lies start .hops, lies start .one))
 
 expiry-requires : tie.Need-expiry-requires
 expiry-requires c κs = search needs
 
 returns : tie.Need-returns
 returns c =
-    let s = c .before .before .before .before .before .before .before .before in (
+    let length = c .before .before .before .before in
+    let from = length .before .before in
+    let start = from .before .before in (
       rw (
         c .expiry .ensures .0,
         c .before .before .before .timestamp-at .ensures,
         c .before .least-exp-time .ensures,
-        c .before .before .before .before .before .before .info-fields-count .ensures .0,
-        c .before .before .before .before .before .first-hop-field .ensures .0,
-        c .before .before .before .before .segment-length .ensures .0,
+        from .hop-fields-start .ensures .0,
+        length .before .first-hop-field .ensures .0,
+        length .segment-length .ensures .0,
         add-sub-cancel-left,
       )
-          (expiry-by-run _ _ _ (s .pre .0) (s .pre .1)),
+          (expiry-by-run _ _ _ (start .pre .0) (start .pre .1)),
       c .expiry .ensures .1,
     )
 
@@ -85,12 +83,10 @@ pub segment-expiry-spec : {M : Type 1} → statement M
 segment-expiry-spec =
     tie.close
     (tie.spec
-    info-fields-count-requires
+    hop-fields-start-requires
+    first-hop-field-requires
     mul-first
     add-first
-    first-hop-field-requires
-    mul-first-2
-    add-first-2
     segment-length-requires
     mul-end
     add-end

@@ -15,8 +15,30 @@ use Rattle.path_expiry.proofs.time_left.Tie as tie
 expiry-time-requires : tie.Need-expiry-time-requires
 expiry-time-requires c κs = search needs
 
+enum-known-answer : tie.Need-enum-known-answer
+enum-known-answer c = search needs
+
+refused-requires : tie.Need-refused-requires
+refused-requires c κs = search needs
+
+returns : tie.Need-returns
+unfolding spec.timeLeftIn spec.timeLeftFound
+returns c =
+    let told = c .before .before in
+    rw (expiry-refused _ _ (told .before .before .expiry-time .ensures .0) (told .answer .given .1)) (c .refused .ensures)
+
 enum-told : tie.Need-enum-told
 enum-told c = search needs
+
+refused-requires-2 : tie.Need-refused-requires-2
+refused-requires-2 c κs = search needs
+
+returns-2 : tie.Need-returns-2
+unfolding spec.timeLeftIn spec.timeLeftFound
+returns-2 c =
+    let told = c .before .before in
+    let found = expiry-ok _ _ (told .before .before .expiry-time .ensures .0) (told .enum-told .given .1) in
+    rw (found, lt-leb _ _ (c .before .if1 .taken)) (c .refused2 .ensures)
 
 left-requires : tie.Need-left-requires
 left-requires c κs = search needs
@@ -24,44 +46,30 @@ left-requires c κs = search needs
 accepted-requires : tie.Need-accepted-requires
 accepted-requires c κs = search needs
 
-returns : tie.Need-returns
+returns-3 : tie.Need-returns-3
 unfolding spec.timeLeftIn spec.timeLeftFound
-returns c =
-    let expiry = c .before .before .before .before .before .expiry-time in
+returns-3 c =
     let left = c .before .left in
-    rw (expiry-ok _ _ (expiry .ensures .0) (c .before .before .before .enum-told .given .1), le-leb _ _ (c .before .before .if1 .taken), ← recorded _ _ (expiry .ensures .0) (c .before .before .before .enum-told .given .1))
+    let told = c .before .before .before in
+    let expiry = told .before .before .expiry-time in
+    let accepted = told .enum-told .given .1 in
+    let found = expiry-ok _ _ (expiry .ensures .0) accepted in
+    rw (found, le-leb _ _ (c .before .before .if1 .left), ← recorded _ _ (expiry .ensures .0) accepted)
     (c .accepted .ensures
     ∙ ap {B = TimeLeft} (λ (z : ℤ). record { answer = Accepted; path = expiry .result .path; ms = z })
     (toZ-ofZ {w = w64} {z = left .result} (record { sfits = left .ok }) ∙ left .ensures))
-
-refused-requires : tie.Need-refused-requires
-refused-requires c κs = search needs
-
-enum-known-answer : tie.Need-enum-known-answer
-enum-known-answer c = search needs
-
-refused-requires-2 : tie.Need-refused-requires-2
-refused-requires-2 c κs = search needs
-
-returns-2 : tie.Need-returns-2
-unfolding spec.timeLeftIn spec.timeLeftFound
-returns-2 c = rw (expiry-ok _ _ (c .before .before .before .before .expiry-time .ensures .0) (c .before .before .enum-told .given .1), lt-leb _ _ (c .before .if1 .left)) (c .refused .ensures)
-
-returns-3 : tie.Need-returns-3
-unfolding spec.timeLeftIn spec.timeLeftFound
-returns-3 c = rw (expiry-refused _ _ (c .before .before .before .before .expiry-time .ensures .0) (c .before .before .answer .given .1)) (c .refused2 .ensures)
 
 pub time-left-spec : {M : Type 1} → statement M
 time-left-spec =
     tie.close
     (tie.spec
     expiry-time-requires
-    enum-told
-    left-requires
-    accepted-requires
-    returns
-    refused-requires
     enum-known-answer
+    refused-requires
+    returns
+    enum-told
     refused-requires-2
     returns-2
+    left-requires
+    accepted-requires
     returns-3)

@@ -1,4 +1,4 @@
--- `interfaces_count` meets its contract: the order of calls on standard paths, then the count.
+-- `interfaces_count` meets its contract: reading, then the count of the header.
 use Rattle.path.proofs.Reading.{answer-ok, answer-refused}
 use Rattle.path_interfaces.specs.Interfaces as spec
 use borrow.Author.Needs.{needs}
@@ -8,12 +8,6 @@ use Rattle.path_interfaces.proofs.interfaces_count.Tie as tie
 standard-requires : tie.Need-standard-requires
 standard-requires c κs = search needs
 
-enum-told : tie.Need-enum-told
-enum-told c = search needs
-
-of-requires : tie.Need-of-requires
-of-requires c κs = search needs
-
 enum-known-answer : tie.Need-enum-known-answer
 enum-known-answer c = search needs
 
@@ -21,21 +15,31 @@ refused-requires : tie.Need-refused-requires
 refused-requires c κs = search needs
 
 returns : tie.Need-returns
-unfolding spec.interfacesIn spec.interfaceCount
-returns c = rw (answer-ok _ (c .before .before .before .standard .ensures) (c .before .enum-told .given .1)) (c .of .ensures)
+unfolding spec.interfacesIn
+returns c =
+    let told = c .before .before in
+    rw (answer-refused _ (told .before .before .standard .ensures) (told .answer .given .1)) (c .refused .ensures)
+
+enum-told : tie.Need-enum-told
+enum-told c = search needs
+
+of-requires : tie.Need-of-requires
+of-requires c κs = search needs
 
 returns-2 : tie.Need-returns-2
-unfolding spec.interfacesIn
-returns-2 c = rw (answer-refused _ (c .before .before .before .before .standard .ensures) (c .before .before .answer .given .1)) (c .refused .ensures)
+unfolding spec.interfacesIn spec.interfaceCount
+returns-2 c =
+    let told = c .before in
+    rw (answer-ok _ (told .before .before .standard .ensures) (told .enum-told .given .1)) (c .of .ensures)
 
 pub interfaces-count-spec : {M : Type 1} → statement M
 interfaces-count-spec =
     tie.close
     (tie.spec
     standard-requires
-    enum-told
-    of-requires
     enum-known-answer
     refused-requires
     returns
+    enum-told
+    of-requires
     returns-2)

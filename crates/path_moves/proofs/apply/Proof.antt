@@ -40,9 +40,12 @@ same-length c = ap length (c .before .before .put-u16 .ensures .1) ∙ simp (len
 
 returns : tie.Need-returns
 returns c =
-    let start = c .before .before .before .before .before .before .before in
-    let a = start .before .before .before .before .args in
-    c .before .before .put-u16 .ensures .1 ∙ rw (start .u16-or-zero .ensures, or-zero-is 2 (a .bytes .now) (infoStart (a .segment) + 2) (omega arith)) (applied-placed (a .bytes .now) (a .segment) (a .moved) (omega arith))
+    let wrote = c .before .before in
+    let read = wrote .before .before .before .before .before in
+    let a = read .before .before .before .before .args in
+    wrote .put-u16 .ensures .1
+    ∙ rw (read .u16-or-zero .ensures, or-zero-is 2 (a .bytes .now) (infoStart (a .segment) + 2) (omega arith))
+    (applied-placed (a .bytes .now) (a .segment) (a .moved) (omega arith))
 
 pub apply-spec : {M : Type 1} → statement M
 apply-spec =

@@ -1,5 +1,5 @@
 -- `is_spared` meets its contract: an owner below s0 can only be s0 − 1, and any other only s0.
-use Prim.Native.Nat.{ℕ, _+_, _-_, _/_, _%_, _^_, _<_}
+use Prim.Native.Nat.{ℕ, _+_, _-_, _<_}
 use mathlib.Core.Path.{_≡_, refl, sym, _∙_}
 use mathlib.Core.Bool.{Bool, true, false, _||_}
 use native.Mathlib.Omega.{arith}
@@ -17,24 +17,29 @@ below owner s0 h = go (eqb (owner + 1) s0) refl
     go true e = eq-eqb owner (s0 - 1) (omega (arith, eqb-true (owner + 1) s0 e))
     go false e = ne-eqb owner (s0 - 1) (λ x. omega (arith, eqb-false (owner + 1) s0 e)) ∙ sym (ne-eqb owner s0 (λ x. omega arith))
 
-returns : tie.Need-returns
-unfolding spared
-returns c = rw (ne-eqb (c .before .args .flags / 2 ^ 1 % 2) 1 (λ e. omega arith))
+is-peering-requires : tie.Need-is-peering-requires
+is-peering-requires c κs = search needs
 
 sub-result : tie.Need-sub-result
 sub-result c = search needs
 
+returns : tie.Need-returns
+unfolding spared
+returns c =
+    let asked = c .before .before in
+    let a = asked .before .args in
+    rw (← asked .is-peering .ensures, c .before .if1 .taken) (below (a .owner) (a .first-length) (c .if2 .taken))
+
 returns-2 : tie.Need-returns-2
 unfolding spared
 returns-2 c =
-    let a = c .before .before .args in
-    rw (eq-eqb (a .flags / 2 ^ 1 % 2) 1 (omega arith)) (below (a .owner) (a .first-length) (c .if2 .taken))
+    let asked = c .before .before in
+    let a = asked .before .args in
+    rw (← asked .is-peering .ensures, c .before .if1 .taken, ne-eqb (a .owner + 1) (a .first-length) (λ e. omega arith))
 
 returns-3 : tie.Need-returns-3
 unfolding spared
-returns-3 c =
-    let a = c .before .before .args in
-    rw (eq-eqb (a .flags / 2 ^ 1 % 2) 1 (omega arith), ne-eqb (a .owner + 1) (a .first-length) (λ e. omega arith))
+returns-3 c = rw (← c .before .is-peering .ensures, c .if1 .left)
 
 pub is-spared-spec : {M : Type 1} → statement M
-is-spared-spec = tie.close (tie.spec returns sub-result returns-2 returns-3)
+is-spared-spec = tie.close (tie.spec is-peering-requires sub-result returns returns-2 returns-3)

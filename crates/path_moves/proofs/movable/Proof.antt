@@ -1,21 +1,23 @@
--- `movable` meets its contract: reading, then the type, then the state; a path that was read is whole.
+-- `movable` meets its contract: reading and the type, then the tests in their order; a path that was read is whole.
+use mathlib.Core.Path.{_≡_}
+use borrow.Author.Needs.{needs}
+use borrow.Author.Tests.{le-leb, lt-leb}
+use Rattle.wire_encoding.specs.Result.{ok}
+use Rattle.path.specs.Dataplane.{standard, pathAnswer}
 use Rattle.path.proofs.Reading.{answer-ok, answer-refused, standard-readable}
 use Rattle.path_moves.specs.Rules.{movable}
-use borrow.Author.Needs.{needs}
 use Rattle.path_moves.proofs.movable.Statement.{statement}
 use Rattle.path_moves.proofs.movable.Tie as tie
 
-new-requires : tie.Need-new-requires
-new-requires c κs = search needs
+-- the path was read
+read : (c : tie.After-enum-told)
+    → let call = c .before .before in
+    let a = call .before .before .args in
+    standard (a .path .«path_type») (a .bytes .now) ≡ ok (call .standard .result .path .«meta_header»)
+read c = answer-ok _ (c .before .before .standard .ensures) (c .enum-told .given .1)
 
 standard-requires : tie.Need-standard-requires
 standard-requires c κs = search needs
-
-enum-told : tie.Need-enum-told
-enum-told c = search needs
-
-state-requires : tie.Need-state-requires
-state-requires c κs = standard-readable _ _ (answer-ok _ (c .before .before .standard .ensures) (c .enum-told .given .1)) .whole
 
 enum-known-answer : tie.Need-enum-known-answer
 enum-known-answer c = search needs
@@ -25,21 +27,76 @@ refused-requires c κs = search needs
 
 returns : tie.Need-returns
 unfolding movable
-returns c = rw (← c .before .before .before .before .new .ensures, answer-ok _ (c .before .before .before .standard .ensures) (c .before .enum-told .given .1)) (c .state .ensures)
+returns c =
+    let told = c .before .before in
+    rw (answer-refused _ (told .before .before .standard .ensures) (told .answer .given .1)) (c .refused .ensures)
+
+enum-told : tie.Need-enum-told
+enum-told c = search needs
+
+hop-fields-count-requires : tie.Need-hop-fields-count-requires
+hop-fields-count-requires c κs = search needs
+
+refused-requires-2 : tie.Need-refused-requires-2
+refused-requires-2 c κs = search needs
 
 returns-2 : tie.Need-returns-2
 unfolding movable
-returns-2 c = rw (← c .before .before .before .before .before .new .ensures, answer-refused _ (c .before .before .before .before .standard .ensures) (c .before .before .answer .given .1)) (c .refused .ensures)
+returns-2 c =
+    let counted = c .before .before in
+    rw (read (counted .before .before), ← counted .hop-fields-count .ensures .0, lt-leb _ _ (c .before .if1 .taken)) (c .refused2 .ensures)
+
+peering-allowed-requires : tie.Need-peering-allowed-requires
+peering-allowed-requires c κs = standard-readable _ _ (read (c .before .before .before)) .whole
+
+accepted-requires : tie.Need-accepted-requires
+accepted-requires c κs = search needs
+
+returns-3 : tie.Need-returns-3
+unfolding movable pathAnswer
+returns-3 c =
+    let allowed = c .before .before in
+    let counted = allowed .before .before in
+    rw (
+      read (counted .before .before),
+      ← counted .hop-fields-count .ensures .0,
+      le-leb _ _ (allowed .before .if1 .left),
+      ← allowed .peering-allowed .ensures,
+      c .before .if2 .taken,
+    )
+    (c .accepted .ensures)
+
+refused-requires-3 : tie.Need-refused-requires-3
+refused-requires-3 c κs = search needs
+
+returns-4 : tie.Need-returns-4
+unfolding movable
+returns-4 c =
+    let allowed = c .before .before in
+    let counted = allowed .before .before in
+    rw (
+      read (counted .before .before),
+      ← counted .hop-fields-count .ensures .0,
+      le-leb _ _ (allowed .before .if1 .left),
+      ← allowed .peering-allowed .ensures,
+      c .before .if2 .left,
+    )
+    (c .refused3 .ensures)
 
 pub movable-spec : {M : Type 1} → statement M
 movable-spec =
     tie.close
     (tie.spec
-    new-requires
     standard-requires
-    enum-told
-    state-requires
     enum-known-answer
     refused-requires
     returns
-    returns-2)
+    enum-told
+    hop-fields-count-requires
+    refused-requires-2
+    returns-2
+    peering-allowed-requires
+    accepted-requires
+    returns-3
+    refused-requires-3
+    returns-4)

@@ -1,32 +1,37 @@
--- `peering_allowed` meets its contract: its tests are those of the definition, on the counts that its callees hand out.
-use borrow.Author.Tests.{eq-eqb, ne-eqb}
+-- `peering_allowed` meets its contract: its test is the definition's, on what its callees hand out.
 use native.Mathlib.Omega.{arith}
+use borrow.Author.Needs.{needs}
 use Rattle.path_meta_header.specs.MetaHeader.{pathLength}
 use Rattle.path_moves.specs.Rules.{peeringAllowed}
-use borrow.Author.Needs.{needs}
 use Rattle.path_moves.proofs.peering_allowed.Statement.{statement}
 use Rattle.path_moves.proofs.peering_allowed.Tie as tie
 
 info-fields-count-requires : tie.Need-info-fields-count-requires
 info-fields-count-requires c κs = search needs
 
-peering-count-requires : tie.Need-peering-count-requires
+some-peering-requires : tie.Need-some-peering-requires
 unfolding pathLength
-peering-count-requires c κs = (omega arith, omega arith)
+some-peering-requires c κs = (omega arith, omega arith)
+
+is-peering-path-requires : tie.Need-is-peering-path-requires
+is-peering-path-requires c κs = search needs
 
 returns : tie.Need-returns
 unfolding peeringAllowed
-returns c = rw (← c .before .before .info-fields-count .ensures .0, ← c .before .peering-count .ensures .0, eq-eqb _ _ (c .if1 .taken))
+returns c =
+    let asked = c .before .before in
+    rw (← asked .before .info-fields-count .ensures .0, ← asked .some-peering .ensures, c .before .if1 .taken) (c .is-peering-path .ensures)
 
 returns-2 : tie.Need-returns-2
 unfolding peeringAllowed
-returns-2 c = rw (← c .before .before .before .info-fields-count .ensures .0, ← c .before .before .peering-count .ensures .0, ne-eqb _ _ (c .before .if1 .left), eq-eqb _ _ (c .if2 .taken))
-
-returns-3 : tie.Need-returns-3
-unfolding peeringAllowed
-returns-3 c = rw (← c .before .before .before .info-fields-count .ensures .0, ← c .before .before .peering-count .ensures .0, ne-eqb _ _ (c .before .if1 .left), ne-eqb _ _ (c .if2 .left))
+returns-2 c = rw (← c .before .before .info-fields-count .ensures .0, ← c .before .some-peering .ensures, c .if1 .left)
 
 pub peering-allowed-spec : {M : Type 1} → statement M
 peering-allowed-spec =
     tie.close
-    (tie.spec info-fields-count-requires peering-count-requires returns returns-2 returns-3)
+    (tie.spec
+    info-fields-count-requires
+    some-peering-requires
+    is-peering-path-requires
+    returns
+    returns-2)

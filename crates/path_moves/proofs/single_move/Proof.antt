@@ -1,20 +1,31 @@
--- `single_move` meets its contract: reading, the type and the state, then the move.
+-- `single_move` meets its contract: what `movable` refuses, the last hop field, then one step of a path that can be moved.
+use Prim.Native.Nat.{_+_}
 use mathlib.Core.Path.{refl}
-use Rattle.path.proofs.Reading.{answer-refused}
-use Rattle.path_moves.specs.Moves.{moved, move}
-use Rattle.path_moves.proofs.Rules.{goes-on}
+use native.Mathlib.Omega.{arith}
 use borrow.Author.Needs.{needs}
+use borrow.Author.Tests.{eq-eqb}
+use Rattle.path_meta_header.specs.MetaHeader.{hopFieldsCount}
+use Rattle.path.specs.Dataplane.{pathAnswer}
+use Rattle.path.proofs.Reading.{answer-ok, answer-refused}
+use Rattle.path_moves.specs.Moves.{CanMove, move, moved, isLast}
+use Rattle.path_moves.proofs.Moves.{can-move, one-move, read-moved}
+use Rattle.path_moves.proofs.Rules.{goes-on}
 use Rattle.path_moves.proofs.single_move.Statement.{statement}
 use Rattle.path_moves.proofs.single_move.Tie as tie
 
+-- the path can be moved
+can : (c : tie.After-step-arg)
+    → let told = c .before .before .before .before .before in
+    CanMove (told .before .before .before .before .before .args .bytes .now) (told .before .before .movable .result .path .«meta_header»)
+can c =
+    let told = c .before .before .before .before .before in
+    let hop = c .before .before .before .wide .ensures in
+    let count = c .before .before .hop-fields-count .ensures in
+    can-move _ _ (goes-on _ _ (told .before .before .movable .ensures) (told .enum-told .given .1) .1)
+    (λ last. c .before .if1 .left (omega arith))
+
 movable-requires : tie.Need-movable-requires
 movable-requires c κs = search needs
-
-enum-told : tie.Need-enum-told
-enum-told c = search needs
-
-move-on-requires : tie.Need-move-on-requires
-move-on-requires c κs = goes-on _ _ (c .before .before .before .movable .ensures) (c .before .enum-told .given .1) .1
 
 enum-known-answer : tie.Need-enum-known-answer
 enum-known-answer c = search needs
@@ -26,27 +37,83 @@ same-length : tie.Need-same-length
 same-length c = search needs
 
 returns : tie.Need-returns
+unfolding moved move
 returns c =
-    let a = c .before .before .before .before .before .before .before .before .before .args in
-    rw (goes-on (a .path-type) (a .bytes .now) (c .before .before .before .before .before .before .movable .ensures) (c .before .before .before .before .enum-told .given .1) .0) (c .before .before .move-on .ensures)
+    let told = c .before .before in
+    rw (answer-refused _ (told .before .before .movable .ensures) (told .answer .given .1)) (c .refused .ensures, refl)
+
+enum-told : tie.Need-enum-told
+enum-told c = search needs
+
+wide-requires : tie.Need-wide-requires
+wide-requires c κs = search needs
+
+add-if1 : tie.Need-add-if1
+add-if1 c = search needs
+
+hop-fields-count-requires : tie.Need-hop-fields-count-requires
+hop-fields-count-requires c κs = search needs
+
+refused-requires-2 : tie.Need-refused-requires-2
+refused-requires-2 c κs = search needs
 
 same-length-2 : tie.Need-same-length-2
 same-length-2 c = search needs
 
 returns-2 : tie.Need-returns-2
-unfolding moved move
-returns-2 c = rw (answer-refused _ (c .before .before .before .before .movable .ensures) (c .before .before .answer .given .1)) (c .refused .ensures, refl)
+unfolding moved move isLast
+returns-2 c =
+    let counted = c .before .before in
+    let told = counted .before .before .before in
+    let read = told .before .before in
+    let m = read .movable .result .path .«meta_header» in
+    let hop = counted .before .wide .ensures in
+    let count = counted .hop-fields-count .ensures in
+    rw (
+      answer-ok _ (read .movable .ensures) (told .enum-told .given .1),
+      eq-eqb (m .«current_hop_field» + 1) (hopFieldsCount m) (omega arith),
+    )
+    (c .refused2 .ensures, refl)
+
+step-requires : tie.Need-step-requires
+step-requires c κs = can c
+
+accepted-requires : tie.Need-accepted-requires
+accepted-requires c κs = search needs
+
+same-length-3 : tie.Need-same-length-3
+same-length-3 c = search needs
+
+returns-3 : tie.Need-returns-3
+unfolding moved pathAnswer
+returns-3 c =
+    let made = c .before .before .before in
+    let counted = made .before .before .before in
+    let told = counted .before .before .before in
+    let read = told .before .before in
+    let a = read .before .before .before .args in
+    let bytes = read .before .before .slice-known .given in
+    let here = can (made .before) in
+    rw (goes-on (a .path .«path_type») (a .bytes .now) (read .movable .ensures) (told .enum-told .given .1) .0, one-move _ _ here)
+    (rw (read-moved _ _ here bytes, ← made .step .ensures .0) (c .accepted .ensures), made .step .ensures .1)
 
 pub single-move-spec : {M : Type 1} → statement M
 single-move-spec =
     tie.close
     (tie.spec
     movable-requires
-    enum-told
-    move-on-requires
     enum-known-answer
     refused-requires
     same-length
     returns
+    enum-told
+    wide-requires
+    add-if1
+    hop-fields-count-requires
+    refused-requires-2
     same-length-2
-    returns-2)
+    returns-2
+    step-requires
+    accepted-requires
+    same-length-3
+    returns-3)

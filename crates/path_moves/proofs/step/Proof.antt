@@ -18,10 +18,11 @@ wide-requires c κs = search needs
 
 apply-requires : tie.Need-apply-requires
 apply-requires c κs =
-    let start = c .before .before .before .before .before .before in
+    let made = c .before .before in
+    let own = made .before .before in
+    let start = own .before .before in
     let s = standing _ _ (start .pre) in
-    let of-own = c .before .before .before .before .of .ensures in
-    (omega arith, fits _ _ (start .pre) (rw of-own at (c .before .before .moved .ensures)))
+    (omega arith, fits _ _ (start .pre) (rw (own .of .ensures) at (made .moved .ensures)))
 
 at-position-requires : tie.Need-at-position-requires
 at-position-requires c κs = search needs
@@ -32,13 +33,15 @@ same-length c = search needs
 returns : tie.Need-returns
 unfolding movedMeta
 returns c =
-    let made = c .before .before .before .before .before .before .before .moved .ensures in
-    let of-own = c .before .before .before .before .before .before .before .before .before .of .ensures in
-    let bytes = c .before .before .before .before .before .before .before .before .before .before .slice-known .given in
-    let start = c .before .before .before .before .before .before .before .before .before .before .before in
+    let wrote = c .before .before .before .before in
+    let made = wrote .before .before .before in
+    let own = made .before .before in
+    let bytes = own .before .slice-known .given in
+    let start = own .before .before in
     let s = standing _ _ (start .pre) in (
-      c .at-position .ensures ∙ rw (made, of-own),
-      c .before .before .before .before .apply .ensures ∙ rw (c .before .before .before .before .before .wide .ensures .0, made, of-own)
+      c .at-position .ensures ∙ rw (made .moved .ensures, own .of .ensures),
+      wrote .apply .ensures
+          ∙ rw (wrote .before .wide .ensures .0, made .moved .ensures, own .of .ensures)
           (sym (move-applied (start .args .bytes .now) (start .args .meta-header) bytes (omega arith))),
     )
 

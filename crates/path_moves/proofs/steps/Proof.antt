@@ -1,4 +1,5 @@
--- `steps` meets its contract: the bytes are those of so many single moves, each of which leaves a path that can be moved; each turn uses up one of the limit.
+-- `steps` meets its contract: the bytes are those of so many single moves, each of which leaves a path that can be moved; each turn of
+-- the loop uses up one of the limit.
 use Prim.Native.Nat.{_≤_, _-_}
 use borrow.Author.Needs.{needs}
 use native.Mathlib.Omega.{arith}
@@ -42,8 +43,9 @@ loop-less c = search needs
 
 loop-again : tie.Need-loop-again Inv-loop μ-loop
 loop-again c =
-    let inv = c .before .before .before .before .before .before .loop .inv in
-    let made = c .before .before .step .ensures in
+    let after-step = c .before .before in
+    let inv = after-step .before .before .before .before .loop .inv in
+    let made = after-step .step .ensures in
     (next _ _ _ _ (inv .0) (inv .1) (omega arith) (made .0) (made .1), c .slice-known2 .given, omega arith)
 
 same-length : tie.Need-same-length Inv-loop μ-loop

@@ -1,20 +1,26 @@
--- `walk` meets its contract: reading, the type and the state, then the walk.
+-- `walk` meets its contract: what `movable` refuses, then the steps; the last hop field bounds their number.
+use Prim.Native.Nat.{_<_}
 use mathlib.Core.Path.{refl}
-use Rattle.path.proofs.Reading.{answer-refused}
-use Rattle.path_moves.specs.Moves.{walked, walk, walkAnswer}
-use Rattle.path_moves.proofs.Rules.{goes-on}
+use native.Mathlib.Omega.{arith}
 use borrow.Author.Needs.{needs}
+use Rattle.path.proofs.Reading.{answer-refused}
+use Rattle.path_moves.specs.Moves.{isLast, walkMoves, walked, walk, walkAnswer}
+use Rattle.path_moves.proofs.Rules.{goes-on, known}
+use Rattle.path_moves.proofs.Walks.{way}
 use Rattle.path_moves.proofs.walk.Statement.{statement}
 use Rattle.path_moves.proofs.walk.Tie as tie
 
+-- there are at most 64 hop fields to walk along
+short : (c : tie.After-wide) → c .before .before .before .before .steps .result .moves < 64
+unfolding walkMoves
+short c =
+    let gone = c .before .before .before .before in
+    let told = gone .before .before .before in
+    let able = goes-on _ _ (told .before .before .movable .ensures) (told .enum-told .given .1) .1 in
+    omega (arith, known _ _ able .few, gone .steps .ensures .0)
+
 movable-requires : tie.Need-movable-requires
 movable-requires c κs = search needs
-
-enum-told : tie.Need-enum-told
-enum-told c = search needs
-
-walk-on-requires : tie.Need-walk-on-requires
-walk-on-requires c κs = goes-on _ _ (c .before .before .before .movable .ensures) (c .before .enum-told .given .1) .1
 
 enum-known-answer : tie.Need-enum-known-answer
 enum-known-answer c = search needs
@@ -26,27 +32,59 @@ same-length : tie.Need-same-length
 same-length c = search needs
 
 returns : tie.Need-returns
+unfolding walked walk walkAnswer
 returns c =
-    let a = c .before .before .before .before .before .before .before .before .before .args in
-    rw (goes-on (a .path-type) (a .bytes .now) (c .before .before .before .before .before .before .movable .ensures) (c .before .before .before .before .enum-told .given .1) .0) (c .before .before .walk-on .ensures)
+    let told = c .before .before in
+    rw (answer-refused _ (told .before .before .movable .ensures) (told .answer .given .1)) (c .refused .ensures, refl)
+
+enum-told : tie.Need-enum-told
+enum-told c = search needs
+
+steps-requires : tie.Need-steps-requires
+steps-requires c κs =
+    let told = c .before .before in
+    goes-on _ _ (told .before .before .movable .ensures) (told .enum-told .given .1) .1
+
+wide-requires : tie.Need-wide-requires
+wide-requires c κs = search needs
+
+add-t18 : tie.Need-add-t18
+add-t18 c = omega (arith, short c)
+
+add-t19 : tie.Need-add-t19
+add-t19 c = omega (arith, short c)
+
+hop-fields-count-requires : tie.Need-hop-fields-count-requires
+hop-fields-count-requires c κs = search needs
 
 same-length-2 : tie.Need-same-length-2
 same-length-2 c = search needs
 
 returns-2 : tie.Need-returns-2
-unfolding walked walk walkAnswer
-returns-2 c = rw (answer-refused _ (c .before .before .before .before .movable .ensures) (c .before .before .answer .given .1)) (c .refused .ensures, refl)
+unfolding walked walkAnswer isLast
+returns-2 c =
+    let gone = c .before .before .before .before .before in
+    let told = gone .before .before .before in
+    let read = told .before .before in
+    let a = read .before .before .before .args in
+    let able = goes-on (a .path .«path_type») (a .bytes .now) (read .movable .ensures) (told .enum-told .given .1) in
+    let steps = gone .steps .ensures in
+    rw (able .0, c .before .wide .ensures .0, c .hop-fields-count .ensures .0, way _ _ _ (able .1) (steps .0), steps .1 .0) (refl, steps .1 .1)
 
 pub walk-spec : {M : Type 1} → statement M
 walk-spec =
     tie.close
     (tie.spec
     movable-requires
-    enum-told
-    walk-on-requires
     enum-known-answer
     refused-requires
     same-length
     returns
+    enum-told
+    steps-requires
+    wide-requires
+    add-t18
+    add-t19
+    hop-fields-count-requires
     same-length-2
     returns-2)

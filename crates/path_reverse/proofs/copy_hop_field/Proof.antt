@@ -27,13 +27,19 @@ same-length c = search needs
 
 returns : tie.Need-returns
 returns c =
-    let first = c .before .before .before .before .before .before .before in
+    let second = c .before .before in
+    let first = second .before .before .before .before .before in
+    let start = first .before .before .before .before .before in
     let bytes = first .before .before .before .before .shared-slice-known .given in
-    let a = first .before .before .before .before .before .args in
-    let eight = number-copied 8 (a .src .now) (a .dst .now) 0 0 bytes (omega arith) (omega arith) (first .before .u64-or-zero .ensures) (first .put-u64 .ensures .1) in
+    let a = start .args in
+    let eight =
+    number-copied 8 (a .src .now) (a .dst .now) 0 0 bytes (omega arith) (omega arith) (first .before .u64-or-zero .ensures)
+    (first .put-u64 .ensures .1) in
     let kept = ap length eight ∙ length-sets (a .dst .now) 0 (part 0 8 (a .src .now)) in
-    hop-field-copied (a .src .now) (a .dst .now) (first .before .before .before .before .before .pre .0) (first .before .before .before .before .before .pre .1) eight
-    (number-copied 4 (a .src .now) _ 8 8 bytes (omega arith) (omega arith) (c .before .before .before .u32-or-zero .ensures) (c .before .before .put-u32 .ensures .1))
+    hop-field-copied (a .src .now) (a .dst .now) (start .pre .0)
+    (start .pre .1) eight
+    (number-copied 4 (a .src .now) _ 8 8 bytes (omega arith) (omega arith) (second .before .u32-or-zero .ensures)
+    (second .put-u32 .ensures .1))
 
 pub copy-hop-field-spec : {M : Type 1} → statement M
 copy-hop-field-spec =

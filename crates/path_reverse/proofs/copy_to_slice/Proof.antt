@@ -1,36 +1,27 @@
 -- `copy_to_slice` meets its contract: reading, then the size, then the bytes.
-use mathlib.Core.Path.{refl, sym}
-use borrow.Author.Tests.{eq-eqb, ne-eqb}
+use mathlib.Core.Path.{_≡_, refl, sym, _∙_}
+use lib.ListN.{length, take}
 use lib.Seq.{length-take-le}
+use borrow.Author.Tests.{eq-eqb}
+use Rattle.wire_encoding.proofs.Writes.{placed-whole}
 use Rattle.path.specs.Dataplane.{pathAnswer}
 use Rattle.path.proofs.Reading.{length-inside, read-ok, read-refused}
-use Rattle.path_reverse.specs.Copy.{copy}
+use Rattle.path_reverse.specs.Copy.{into, copy}
+use Rattle.path_reverse.proofs.Copy.{into-exact, into-other}
 use borrow.Author.Needs.{needs}
 use Rattle.path_reverse.proofs.copy_to_slice.Statement.{statement}
 use Rattle.path_reverse.proofs.copy_to_slice.Tie as tie
 
+-- as many bytes as reading says
+run-length : (c : tie.After-enum-told)
+    → let decode = c .before .before .decode in
+    length (take (decode .result .length) (c .before .before .before .before .before .args .bytes .now)) ≡ decode .result .length
+run-length c =
+    let a = c .before .before .before .before .before .args in
+    length-take-le _ _ (rw (← c .before .before .decode .ensures) at (length-inside (a .bytes .now) (a .path .«path_type»)))
+
 decode-requires : tie.Need-decode-requires
 decode-requires c κs = search needs
-
-enum-told : tie.Need-enum-told
-enum-told c = search needs
-
-accepted-requires : tie.Need-accepted-requires
-accepted-requires c κs = search needs
-
-returns : tie.Need-returns
-unfolding copy pathAnswer
-returns c =
-    rw (read-ok _ (c .before .before .before .before .before .decode .ensures) (c .before .before .before .enum-told .given .1), eq-eqb _ _ (c .before .if1 .taken))
-    (c .accepted .ensures, refl)
-
-slice-aggregate-copy-whole : tie.Need-slice-aggregate-copy-whole
-slice-aggregate-copy-whole c =
-    let a = c .before .before .before .before .before .before .before .before .args in
-    sym (length-take-le _ _ (rw (← c .before .before .before .before .before .decode .ensures) at (length-inside (a .bytes .now) (a .path .«path_type»))))
-
-copy-whole-requires : tie.Need-copy-whole-requires
-copy-whole-requires c κs = search needs
 
 enum-known-answer : tie.Need-enum-known-answer
 enum-known-answer c = search needs
@@ -38,34 +29,79 @@ enum-known-answer c = search needs
 not-read-requires : tie.Need-not-read-requires
 not-read-requires c κs = search needs
 
-same-length : tie.Need-same-length
-same-length c = search needs
+returns : tie.Need-returns
+unfolding copy
+returns c =
+    let told = c .before .before in
+    rw (read-refused _ (told .before .before .decode .ensures) (told .answer .given .1)) (c .not-read .ensures, refl)
+
+enum-told : tie.Need-enum-told
+enum-told c = search needs
+
+accepted-requires : tie.Need-accepted-requires
+accepted-requires c κs = search needs
 
 returns-2 : tie.Need-returns-2
-unfolding copy
+unfolding copy into pathAnswer
 returns-2 c =
-    rw (
-      read-ok _ (c .before .before .before .before .before .before .before .before .before .decode .ensures) (c .before .before .before .before .before .before .before .enum-told .given .1),
-      ne-eqb _ _ (c .before .before .before .before .before .if1 .left),
-    )
-    (c .before .before .copy-whole .ensures)
+    let told = c .before .before .before in
+    let read = read-ok _ (told .before .before .decode .ensures) (told .enum-told .given .1) in
+    rw (read, eq-eqb _ 0 (c .before .if1 .taken)) (c .accepted .ensures, refl)
+
+refused-requires : tie.Need-refused-requires
+refused-requires c κs = search needs
 
 returns-3 : tie.Need-returns-3
 unfolding copy
-returns-3 c = rw (read-refused _ (c .before .before .before .before .decode .ensures) (c .before .before .answer .given .1)) (c .not-read .ensures, refl)
+returns-3 c =
+    let size = c .before in
+    let some = size .before .before in
+    let told = some .before .before in
+    let read = read-ok _ (told .before .before .decode .ensures) (told .enum-told .given .1) in
+    let a = told .before .before .before .before .before .args in
+    let run = take (told .before .before .decode .result .length) (a .bytes .now) in
+    rw (read, into-other _ (some .if1 .left) _ run (a .dst .now) (λ e. size .if2 .taken (e ∙ run-length told))) (c .refused .ensures, refl)
+
+part-of-requires : tie.Need-part-of-requires
+part-of-requires c κs = search needs
+
+put-slice-requires : tie.Need-put-slice-requires
+put-slice-requires c κs = search needs
+
+accepted-requires-2 : tie.Need-accepted-requires-2
+accepted-requires-2 c κs = search needs
+
+same-length : tie.Need-same-length
+same-length c = search needs
+
+returns-4 : tie.Need-returns-4
+unfolding copy pathAnswer
+returns-4 c =
+    let put = c .before .before .before in
+    let size = put .before .before .before in
+    let some = size .before .before in
+    let told = some .before .before in
+    let read = read-ok _ (told .before .before .decode .ensures) (told .enum-told .given .1) in
+    let exact = size .if2 .left ∙ sym (run-length told) in
+    let whole = placed-whole _ _ (sym exact) in
+    rw (read, into-exact _ (some .if1 .left) _ _ _ exact)
+    (c .accepted2 .ensures, rw (put .before .part-of .ensures) at (put .put-slice .ensures .1) ∙ whole)
 
 pub copy-to-slice-spec : {M : Type 1} → statement M
 copy-to-slice-spec =
     tie.close
     (tie.spec
     decode-requires
-    enum-told
-    accepted-requires
-    returns
-    slice-aggregate-copy-whole
-    copy-whole-requires
     enum-known-answer
     not-read-requires
-    same-length
+    returns
+    enum-told
+    accepted-requires
     returns-2
-    returns-3)
+    refused-requires
+    returns-3
+    part-of-requires
+    put-slice-requires
+    accepted-requires-2
+    same-length
+    returns-4)

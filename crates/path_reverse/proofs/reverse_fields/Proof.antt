@@ -17,7 +17,9 @@ to-reversed-requires : tie.Need-to-reversed-requires
 to-reversed-requires c κs = search needs
 
 word-of-requires : tie.Need-word-of-requires
-word-of-requires c κs = ap metaFits (c .before .to-reversed .ensures) ∙ c .before .before .before .before .before .before .pre .fits
+word-of-requires c κs =
+    let reversed = c .before in
+    ap metaFits (reversed .to-reversed .ensures) ∙ reversed .before .before .before .before .before .pre .fits
 
 put-u32-requires : tie.Need-put-u32-requires
 put-u32-requires c κs = search needs
@@ -26,11 +28,8 @@ reverse-info-fields-requires : tie.Need-reverse-info-fields-requires
 unfolding pathLength
 reverse-info-fields-requires c κs = search needs
 
-mul-first-hop : tie.Need-mul-first-hop
-mul-first-hop c = search needs
-
-add-first-hop : tie.Need-add-first-hop
-add-first-hop c = search needs
+hop-fields-start-requires : tie.Need-hop-fields-start-requires
+hop-fields-start-requires c κs = search needs
 
 reverse-hop-fields-requires : tie.Need-reverse-hop-fields-requires
 unfolding pathLength
@@ -41,14 +40,18 @@ same-length c = search needs
 
 returns : tie.Need-returns
 returns c =
-    let start = c .before .before .before .before .before .before .before .before .before .before .before .before .before .before .before .before .before .before in
-    let infos = c .before .before .before .before .before .before .before .before .before .before .before .before .before .before .before .info-fields-count .ensures .0 in
-    let hops = c .before .before .before .before .before .before .before .before .before .before .before .before .before .before .hop-fields-count .ensures .0 in
-    let word = c .before .before .before .before .before .before .before .before .before .before .before .word-of .ensures ∙ ap wordOf (c .before .before .before .before .before .before .before .before .before .before .before .before .before .to-reversed .ensures) in
+    let hops = c .before .before in
+    let from = hops .before .before in
+    let infos = from .before .before .before in
+    let put = infos .before .before .before .before in
+    let reversed = put .before .before .before in
+    let count = reversed .before .before in
+    let start = count .before .before .before in
+    let word = put .before .word-of .ensures ∙ ap wordOf (reversed .to-reversed .ensures) in
     all-written (start .args .meta-header) (start .args .bytes .now) (start .args .dst .now) (start .pre)
-    (rw word at (c .before .before .before .before .before .before .before .before .before .before .put-u32 .ensures .1))
-    (rw infos at (c .before .before .before .before .before .before .reverse-info-fields .ensures))
-    (simp (infos, hops) at (c .before .before .reverse-hop-fields .ensures))
+    (rw word at (put .put-u32 .ensures .1))
+    (rw (count .info-fields-count .ensures .0) at (infos .reverse-info-fields .ensures))
+    (simp (from .hop-fields-start .ensures .0, reversed .before .hop-fields-count .ensures .0) at (hops .reverse-hop-fields .ensures))
 
 pub reverse-fields-spec : {M : Type 1} → statement M
 reverse-fields-spec =
@@ -60,8 +63,7 @@ reverse-fields-spec =
     word-of-requires
     put-u32-requires
     reverse-info-fields-requires
-    mul-first-hop
-    add-first-hop
+    hop-fields-start-requires
     reverse-hop-fields-requires
     same-length
     returns)

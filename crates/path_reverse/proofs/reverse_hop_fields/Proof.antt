@@ -57,9 +57,13 @@ part-copy-hop-field-end-2 c = search needs
 
 copy-hop-field-requires : tie.Need-copy-hop-field-requires Inv-loop μ-loop
 copy-hop-field-requires c κs =
-    let l = c .before .before .before .loop in
-    let at = c .before .before .before .before .before .before .args .from + (l .left - 1) * 12 in
-    (length-part at (at + 12 - at) _ (omega arith) ∙ add-sub-cancel-left _ _, length-part (l .next) (l .next + 12 - l .next) _ (omega arith) ∙ add-sub-cancel-left _ _)
+    let loop = c .before .before .before in
+    let l = loop .loop in
+    let at = loop .before .before .before .args .from + (l .left - 1) * 12 in (
+      length-part at (at + 12 - at) _ (omega arith) ∙ add-sub-cancel-left _ _,
+      length-part (l .next) (l .next + 12 - l .next) _ (omega arith)
+          ∙ add-sub-cancel-left _ _,
+    )
 
 add-next : tie.Need-add-next Inv-loop μ-loop
 add-next c = search needs
@@ -70,10 +74,11 @@ loop-less c = search needs
 loop-again : tie.Need-loop-again Inv-loop μ-loop
 unfolding same
 loop-again c =
-    let l = c .before .before .before .before .before .before .loop in
-    let at = c .before .before .before .before .before .before .before .before .before .args .from + (l .left - 1) * 12 in
+    let test = c .before .before .before .before .before in
+    let l = test .before .loop in
+    let at = test .before .before .before .before .args .from + (l .left - 1) * 12 in
     step same sized-same 12 _ _ _ _ _ _ _ _ (at + 12 - at) (l .next + 12 - l .next)
-    (c .before .before .before .before .before .loop-test .taken)
+    (test .loop-test .taken)
     (add-sub-cancel-left _ _)
     (add-sub-cancel-left _ _)
     (l .inv)

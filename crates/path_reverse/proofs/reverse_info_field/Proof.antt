@@ -26,7 +26,8 @@ returns c =
     let put = c .before .before .before in
     let start = put .before .before .before .before .before in
     flipped-written (start .args .src .now) (start .args .dst .now) (start .pre .0) (start .pre .1)
-    (number-copied 8 (start .args .src .now) (start .args .dst .now) 0 0 (put .before .before .before .before .shared-slice-known .given) (omega arith) (omega arith) (put .before .u64-or-zero .ensures) (put .put-u64 .ensures .1))
+    (number-copied 8 (start .args .src .now) (start .args .dst .now) 0 0 (put .before .before .before .before .shared-slice-known .given)
+    (omega arith) (omega arith) (put .before .u64-or-zero .ensures) (put .put-u64 .ensures .1))
 
 pub reverse-info-field-spec : {M : Type 1} → statement M
 reverse-info-field-spec =

@@ -57,9 +57,13 @@ part-reverse-info-field-end-2 c = search needs
 
 reverse-info-field-requires : tie.Need-reverse-info-field-requires Inv-loop μ-loop
 reverse-info-field-requires c κs =
-    let l = c .before .before .before .loop in
-    let at = c .before .before .before .before .before .before .args .from + (l .left - 1) * 8 in
-    (length-part at (at + 8 - at) _ (omega arith) ∙ add-sub-cancel-left _ _, length-part (l .next) (l .next + 8 - l .next) _ (omega arith) ∙ add-sub-cancel-left _ _)
+    let loop = c .before .before .before in
+    let l = loop .loop in
+    let at = loop .before .before .before .args .from + (l .left - 1) * 8 in (
+      length-part at (at + 8 - at) _ (omega arith) ∙ add-sub-cancel-left _ _,
+      length-part (l .next) (l .next + 8 - l .next) _ (omega arith)
+          ∙ add-sub-cancel-left _ _,
+    )
 
 add-next : tie.Need-add-next Inv-loop μ-loop
 add-next c = search needs
@@ -69,10 +73,11 @@ loop-less c = search needs
 
 loop-again : tie.Need-loop-again Inv-loop μ-loop
 loop-again c =
-    let l = c .before .before .before .before .before .before .loop in
-    let at = c .before .before .before .before .before .before .before .before .before .args .from + (l .left - 1) * 8 in
+    let test = c .before .before .before .before .before in
+    let l = test .before .loop in
+    let at = test .before .before .before .before .args .from + (l .left - 1) * 8 in
     step flipped sized-flipped 8 _ _ _ _ _ _ _ _ (at + 8 - at) (l .next + 8 - l .next)
-    (c .before .before .before .before .before .loop-test .taken)
+    (test .loop-test .taken)
     (add-sub-cancel-left _ _)
     (add-sub-cancel-left _ _)
     (l .inv)

@@ -4,8 +4,8 @@ use borrow.Author.Needs.{needs}
 use Rattle.scion_paths.proofs.info_field_out.Statement.{statement}
 use Rattle.scion_paths.proofs.info_field_out.Tie as tie
 
-bytes-of-requires : tie.Need-bytes-of-requires
-bytes-of-requires c κs = search needs
+part-of-requires : tie.Need-part-of-requires
+part-of-requires c κs = search needs
 
 new-requires : tie.Need-new-requires
 new-requires c κs = search needs
@@ -13,12 +13,12 @@ new-requires c κs = search needs
 answer-out-requires : tie.Need-answer-out-requires
 answer-out-requires c κs = search needs
 
-path-out-requires : tie.Need-path-out-requires
-path-out-requires c κs = search needs
-
 returns : tie.Need-returns
 unfolding infoFieldOut
-returns c = rw (c .before .answer-out .ensures, c .path-out .ensures, c .before .before .before .new .ensures, c .before .before .before .before .bytes-of .ensures)
+returns c =
+    let read = c .before .before in
+    rw (c .answer-out .ensures, read .new .ensures, read .before .part-of .ensures)
 
 pub info-field-out-spec : {M : Type 1} → statement M
-info-field-out-spec = tie.close (tie.spec bytes-of-requires new-requires answer-out-requires path-out-requires returns)
+info-field-out-spec =
+    tie.close (tie.spec part-of-requires new-requires answer-out-requires returns)

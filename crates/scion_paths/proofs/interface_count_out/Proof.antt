@@ -1,4 +1,4 @@
--- `interface_count_out` meets its contract: the answer, the record and the count are those given.
+-- `interface_count_out` meets its contract: the answer is handed out as its number and value, the count as it is.
 use Rattle.scion_paths.specs.Paths.{interfaceCountOut}
 use borrow.Author.Needs.{needs}
 use Rattle.scion_paths.proofs.interface_count_out.Statement.{statement}
@@ -7,12 +7,9 @@ use Rattle.scion_paths.proofs.interface_count_out.Tie as tie
 answer-out-requires : tie.Need-answer-out-requires
 answer-out-requires c κs = search needs
 
-path-out-requires : tie.Need-path-out-requires
-path-out-requires c κs = search needs
-
 returns : tie.Need-returns
 unfolding interfaceCountOut
-returns c = rw (c .before .answer-out .ensures, c .path-out .ensures)
+returns c = rw (c .answer-out .ensures)
 
 pub interface-count-out-spec : {M : Type 1} → statement M
-interface-count-out-spec = tie.close (tie.spec answer-out-requires path-out-requires returns)
+interface-count-out-spec = tie.close (tie.spec answer-out-requires returns)

@@ -1,4 +1,4 @@
--- `time_left_out` meets its contract: the answer, the record and the ms are those given. What is stored is the signed number itself, since it fits.
+-- `time_left_out` meets its contract: the answer is handed out as its number and value; the signed number itself, since it fits.
 use mir.Syntax.{w64}
 use mir.Facts.{toZ-ofZ}
 use Rattle.scion_paths.specs.Paths.{timeLeftOut}
@@ -9,12 +9,11 @@ use Rattle.scion_paths.proofs.time_left_out.Tie as tie
 answer-out-requires : tie.Need-answer-out-requires
 answer-out-requires c κs = search needs
 
-path-out-requires : tie.Need-path-out-requires
-path-out-requires c κs = search needs
-
 returns : tie.Need-returns
 unfolding timeLeftOut
-returns c = rw (c .before .before .answer-out .ensures, c .before .path-out .ensures, toZ-ofZ {w = w64} {z = c .before .before .before .before .args .left .ms} (record { sfits = c .struct-told .given .1 .1 .0 .1 }))
+returns c =
+    let left = c .before .before .before .args .left in
+    rw (c .before .answer-out .ensures, toZ-ofZ {w = w64} {z = left .ms} (record { sfits = c .struct-told .given .1 .1 .0 .1 }))
 
 pub time-left-out-spec : {M : Type 1} → statement M
-time-left-out-spec = tie.close (tie.spec answer-out-requires path-out-requires returns)
+time-left-out-spec = tie.close (tie.spec answer-out-requires returns)

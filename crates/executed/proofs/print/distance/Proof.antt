@@ -23,7 +23,9 @@ record Small (z : ℤ) : Type 0 where
 -- A number below 0, taken from -1.
 below : (z : ℤ) → SFits w64 z → ltZ z (pos 0) ≡ true → Small (negsuc 0 -ℤ z)
 below (pos n) f t = absurd (omega (arith, ltb-true n 0 t))
-below (negsuc k) f t = rw (le-ltb (suc k) 1 (omega arith)) (record { inside = record { sfits = omega (arith, f .sfits) }; positive = tt; small = omega (arith, f .sfits) })
+below (negsuc k) f t =
+    rw (le-ltb (suc k) 1 (omega arith))
+    (record { inside = record { sfits = omega (arith, f .sfits) }; positive = tt; small = omega (arith, f .sfits) })
 
 -- The same of the number in hand.
 taken : (c : tie.Then1) → Small (negsuc 0 -ℤ c .before .args .number)

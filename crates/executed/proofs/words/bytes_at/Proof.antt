@@ -36,7 +36,8 @@ same-length c = search needs
 
 returns : tie.Need-returns
 returns c =
-    let h : c .lesser2 .result ≤ length (c .before .before .before .before .before .before .put-pairs .last .1 .0) = search needs in
+    let count = c .before .before in
+    let h : c .lesser2 .result ≤ length (count .before .before .before .before .put-pairs .last .1 .0) = search needs in
     (h, sym (length-take-le _ _ h))
 
 pub bytes-at-spec : {M : Type 1} → statement M

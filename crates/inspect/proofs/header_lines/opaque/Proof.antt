@@ -26,7 +26,9 @@ array-share-prefix-bytes : tie.Need-array-share-prefix-bytes
 array-share-prefix-bytes c = fits (c .before .before .before .before) (c .before .before .encoded-length .ensures .1)
 
 slice-aggregate-hex : tie.Need-slice-aggregate-hex
-slice-aggregate-hex c = sym (length-take-le _ (c .before .before .before .before .before .args .address .bytes) (fits (c .before .before .before .before .before) (c .before .before .before .encoded-length .ensures .1)))
+slice-aggregate-hex c =
+    sym (length-take-le _ (c .before .before .before .before .before .args .address .bytes)
+    (fits (c .before .before .before .before .before) (c .before .before .before .encoded-length .ensures .1)))
 
 hex-requires : tie.Need-hex-requires
 hex-requires c κs = search needs

@@ -2,7 +2,7 @@
 use native.Mathlib.Omega.{arith}
 use Rattle.wire_encoding.proofs.BigEndian.{or-zero-is}
 use Rattle.packet_address_header.specs.AddressHeader.{addressAt, addressAnswer, lengthOfKinds}
-use Rattle.packet_address_header.proofs.ReadingLaws.{address-length, truncated, address-read}
+use Rattle.packet_address_header.proofs.AddressHeaderLaws.{address-length, truncated, address-read}
 use borrow.Author.Needs.{needs}
 use Rattle.packet_address_header.proofs.AddressHeader.decode_with_context.Statement.{
   statement,
@@ -27,8 +27,10 @@ zero-requires c κs = search needs
 returns : tie.Need-returns
 unfolding addressAnswer
 returns c =
-    let args = c .before .before .before .before .before .args in
-    let short = rw (c .before .before .before .address-length .ensures .0, c .before .before .address-length2 .ensures .0) at (c .before .if1 .taken) in
+    let second = c .before .before in
+    let first = second .before in
+    let args = first .before .before .args in
+    let short = rw (first .address-length .ensures .0, second .address-length2 .ensures .0) at (c .before .if1 .taken) in
     rw (c .zero .ensures, truncated (args .bytes .now) (args .destination-kind) (args .source-kind) short)
 
 read-requires : tie.Need-read-requires
@@ -48,13 +50,14 @@ u64-or-zero-requires-2 c κs = search needs
 returns-2 : tie.Need-returns-2
 unfolding addressAt addressAnswer lengthOfKinds
 returns-2 c =
-    let s = c .before .before .before .before in
-    let first = s .before .before .address-length .ensures .0 in
-    let second = s .before .address-length2 .ensures .0 in
-    let args = s .before .before .before .before .args in
+    let enough = c .before .before .before .before in
+    let second = enough .before in
+    let first = second .before in
+    let args = first .before .before .args in
     let bytes = args .bytes .now in
-    let enough = s .if1 .left in
-    let read = address-read bytes (args .destination-kind) (args .source-kind) (omega (arith, enough, first, second)) in
+    let destination-long = first .address-length .ensures .0 in
+    let source-long = second .address-length2 .ensures .0 in
+    let read = address-read bytes (args .destination-kind) (args .source-kind) (omega (arith, enough .if1 .left, destination-long, source-long)) in
     let long = address-length bytes (args .destination-kind) (args .source-kind) in
     rw (
       read,
@@ -65,8 +68,8 @@ returns-2 c =
       or-zero-is 8 bytes 8 (omega arith),
       c .before .before .read2 .ensures,
       c .before .before .before .read .ensures,
-      first,
-      second,
+      destination-long,
+      source-long,
     )
 
 pub decode-with-context-spec : {M : Type 1} → statement M

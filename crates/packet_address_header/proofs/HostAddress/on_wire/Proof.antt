@@ -1,6 +1,5 @@
--- `host_on_wire` meets its contract, arm by arm.
-use Rattle.packet_address_header.specs.AddressHeader.{kindOf}
-use Rattle.packet_address_header.specs.AddressHeader.{rawOf, hostOnWire}
+-- `HostAddress::on_wire` meets its contract, arm by arm.
+use Rattle.packet_address_header.specs.AddressHeader.{kindOf, rawOf, hostOnWire}
 use borrow.Author.Needs.{needs}
 use Rattle.packet_address_header.proofs.HostAddress.on_wire.Statement.{statement}
 use Rattle.packet_address_header.proofs.HostAddress.on_wire.Tie as tie
@@ -33,7 +32,9 @@ returns-2 c = rw (c .before .before .before .host .given .1, c .enum-told2 .give
 
 returns-3 : tie.Need-returns-3
 unfolding hostOnWire kindOf rawOf
-returns-3 c = rw (c .before .before .before .before .before .host .given .1, c .before .before .named .given .1, c .service-bytes .ensures)
+returns-3 c =
+    let service = c .before .before in
+    rw (service .before .before .before .host .given .1, service .named .given .1, c .service-bytes .ensures)
 
 returns-4 : tie.Need-returns-4
 unfolding hostOnWire kindOf rawOf

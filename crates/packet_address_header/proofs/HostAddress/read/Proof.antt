@@ -25,12 +25,14 @@ of-kind-requires c κs = search needs
 
 raw-host-address-requires : tie.Need-raw-host-address-requires
 raw-host-address-requires c κs =
-    let long = c .before .before .address-length .ensures in
-    (long .1, rw (long .0) (c .before .before .before .before .pre))
+    let long = c .before .before in
+    (long .address-length .ensures .1, rw (long .address-length .ensures .0) (long .before .before .pre))
 
 returns-2 : tie.Need-returns-2
 unfolding hostAt
-returns-2 c = rw (ne-eqb _ _ (c .before .before .if1 .left), c .before .of-kind .ensures, c .raw-host-address .ensures, c .before .before .before .address-length .ensures .0)
+returns-2 c =
+    let other = c .before .before in
+    rw (ne-eqb _ _ (other .if1 .left), c .before .of-kind .ensures, c .raw-host-address .ensures, other .before .address-length .ensures .0)
 
 pub read-spec : {M : Type 1} → statement M
 read-spec =

@@ -1,7 +1,6 @@
 -- `WireAddress::encoded_length` meets its contract: the networks, then both hosts.
 use native.Mathlib.Omega.{arith}
-use Rattle.packet_address_header.specs.AddressHeader.{lengthOfKinds}
-use Rattle.packet_address_header.specs.AddressHeader.{wireLength}
+use Rattle.packet_address_header.specs.AddressHeader.{lengthOfKinds, wireLength}
 use borrow.Author.Needs.{needs}
 use Rattle.packet_address_header.proofs.WireAddress.encoded_length.Statement.{statement}
 use Rattle.packet_address_header.proofs.WireAddress.encoded_length.Tie as tie

@@ -1,36 +1,33 @@
--- `WireAddress::put` meets its contract: the laws of a written run, at all of the header.
-use mathlib.Core.Path.{_≡_, refl}
+-- `WireAddress::put` meets its contract: where there is room for all, the four runs lie side by side; else nothing is written.
+use mathlib.Core.Path.{_≡_, refl, ap}
+use Prim.Native.Nat.{ℕ, _+_, _≤_}
 use native.Mathlib.Omega.{arith}
 use lib.ListN.{length}
 use Rattle.wire_encoding.proofs.Writes.{done, no-room}
-use Rattle.packet_address_header.specs.AddressHeader.{wireLength, wireBytes}
-use Rattle.packet_address_header.proofs.WritingLaws.{length-wireBytes}
+use Rattle.packet_address_header.specs.AddressHeader.{lengthOfKinds, wireLength, wireBytes}
+use Rattle.packet_address_header.proofs.AddressHeaderLaws.{WireSixteen, length-wireBytes, ends-written}
 use borrow.Author.Needs.{needs}
 use Rattle.packet_address_header.proofs.WireAddress.put.Statement.{statement}
 use Rattle.packet_address_header.proofs.WireAddress.put.Tie as tie
 
-encoded-length-requires : tie.Need-encoded-length-requires
-encoded-length-requires c κs = search needs
+-- the arrays beside the hosts are of sixteen bytes
+both-sixteen : (c : tie.Start) → WireSixteen (c .args .self)
+both-sixteen c = record { destination-sixteen = search needs; source-sixteen = search needs }
+
+size : (c : tie.Start) → length (wireBytes (c .args .self)) ≡ wireLength (c .args .self)
+size c = length-wireBytes (c .args .self) (both-sixteen c)
+
+returns : tie.Need-returns
+returns c =
+    let start = c .before .before in
+    let a = start .args in
+    rw (no-room (a .dst .now) (a .at) (wireBytes (a .self)) _ (size start) (omega arith)) (refl, refl)
 
 sub-if2 : tie.Need-sub-if2
 sub-if2 c = search needs
 
-write-requires : tie.Need-write-requires
-write-requires c κs = search needs
-
-same-length : tie.Need-same-length
-same-length c = search needs
-
--- its length: the arrays beside the hosts are of sixteen bytes
-size : (c : tie.Start) → length (wireBytes (c .args .self)) ≡ wireLength (c .args .self)
-size c = length-wireBytes (c .args .self) (record { destination-sixteen = search needs; source-sixteen = search needs })
-
-returns : tie.Need-returns
-returns c =
-    let start = c .before .before .before .before .before .before .before .before in
-    let a = start .args in
-    rw (done (a .dst .now) (a .at) (wireBytes (a .self)) _ (size start) (omega (arith, c .before .before .before .before .before .encoded-length .ensures .0)))
-    (refl, c .before .before .write .ensures)
+encoded-length-requires : tie.Need-encoded-length-requires
+encoded-length-requires c κs = search needs
 
 returns-2 : tie.Need-returns-2
 returns-2 c =
@@ -38,20 +35,74 @@ returns-2 c =
     let a = start .args in
     rw (no-room (a .dst .now) (a .at) (wireBytes (a .self)) _ (size start) (omega (arith, c .before .encoded-length .ensures .0))) (refl, refl)
 
+add-destination-at : tie.Need-add-destination-at
+add-destination-at c = search needs
+
+encoded-length-requires-2 : tie.Need-encoded-length-requires-2
+encoded-length-requires-2 c κs = search needs
+
+add-source-at : tie.Need-add-source-at
+add-source-at c = search needs
+
+-- there is room for all of it
+room : (c : tie.Else2) → let start = c .before .before .before .before in
+    start .args .at + wireLength (start .args .self) ≤ length (start .args .dst .now)
+room c = omega (arith, c .before .encoded-length .ensures .0)
+
+put-requires : tie.Need-put-requires
+unfolding wireLength lengthOfKinds
+put-requires c κs = omega (arith, room (c .before .before))
+
+put-u64-requires : tie.Need-put-u64-requires
+put-u64-requires c κs = search needs
+
+put-requires-2 : tie.Need-put-requires-2
+unfolding wireLength lengthOfKinds
+put-requires-2 c κs =
+    let number = c .before .before .before in
+    let host = number .before .before .before .before in
+    let after = host .before .before in
+    omega (arith, room (after .before), after .encoded-length2 .ensures .0)
+
+add-put-u64 : tie.Need-add-put-u64
+add-put-u64 c = search needs
+
+put-u64-requires-2 : tie.Need-put-u64-requires-2
+put-u64-requires-2 c κs = search needs
+
+same-length : tie.Need-same-length
+same-length c = search needs
+
 returns-3 : tie.Need-returns-3
 returns-3 c =
-    let start = c .before .before in
+    let source-number = c .before .before in
+    let source-host = source-number .before .before .before .before in
+    let number = source-host .before .before .before .before in
+    let host = number .before .before .before .before in
+    let after = host .before .before in
+    let tested = after .before in
+    let start = tested .before .before .before .before in
     let a = start .args in
-    rw (no-room (a .dst .now) (a .at) (wireBytes (a .self)) _ (size start) (omega arith)) (refl, refl)
+    let next = ap (λ (n : ℕ). a .at + 16 + n) (after .encoded-length2 .ensures .0) in
+    let all = ends-written (a .self) (both-sixteen start) (a .dst .now) (a .at) _ next (room tested)
+    (host .put .ensures) (number .put-u64 .ensures .1) (source-host .put2 .ensures) (source-number .put-u642 .ensures .1) in
+    rw (done (a .dst .now) (a .at) (wireBytes (a .self)) _ (size start) (room tested)) (refl, all)
 
 pub put-spec : {M : Type 1} → statement M
 put-spec =
     tie.close
     (tie.spec
-    encoded-length-requires
-    sub-if2
-    write-requires
-    same-length
     returns
+    sub-if2
+    encoded-length-requires
     returns-2
+    add-destination-at
+    encoded-length-requires-2
+    add-source-at
+    put-requires
+    put-u64-requires
+    put-requires-2
+    add-put-u64
+    put-u64-requires-2
+    same-length
     returns-3)

@@ -4,9 +4,10 @@ use Prim.Native.Nat.{ℕ, _+_, _-_, _≤_}
 use native.Mathlib.Omega.{arith}
 use lib.ListN.{length, take}
 use lib.Seq.{sets}
+use Rattle.wire_encoding.proofs.Lists.{Bytes}
 use Rattle.packet_common_header.specs.CommonHeader.{hostLength}
 use Rattle.packet_address_header.specs.AddressHeader.{wireHostBytes}
-use Rattle.packet_address_header.proofs.WritingLaws.{Written, host-words, length-written, word-room, word-written}
+use Rattle.packet_address_header.proofs.AddressHeaderLaws.{Written, host-words, length-written, word-room, word-written}
 use borrow.Author.Needs.{needs}
 use Rattle.packet_address_header.proofs.WireHost.put.Statement.{statement}
 use Rattle.packet_address_header.proofs.WireHost.put.Tie as tie
@@ -28,7 +29,9 @@ loop-holds c = record {
   passed = omega arith;
 }
 
-room : (c : tie.In-loop Inv-loop μ-loop) → c .before .before .before .before .before .args .at + c .before .loop .done + 4 ≤ length (c .before .loop .dst)
+-- there is room for the next word
+room : (c : tie.In-loop Inv-loop μ-loop) → let turn = c .before in
+    turn .before .before .before .before .args .at + turn .loop .done + 4 ≤ length (turn .loop .dst)
 room c = word-room (c .before .loop .inv) (c .loop-test .taken) (omega (arith, c .before .before .before .encoded-length .ensures .0))
 
 add-put-u32 : tie.Need-add-put-u32 Inv-loop μ-loop
@@ -59,18 +62,31 @@ put-u32-requires : tie.Need-put-u32-requires Inv-loop μ-loop
 put-u32-requires c κs = search needs
 
 add-done : tie.Need-add-done Inv-loop μ-loop
-add-done c = omega (arith, c .before .before .before .before .before .before .before .before .before .encoded-length .ensures .1)
+add-done c =
+    let in-loop = c .before .before .before .before .before in
+    omega (arith, in-loop .before .before .before .before .encoded-length .ensures .1)
 
 loop-less : tie.Need-loop-less Inv-loop μ-loop
 loop-less c = omega arith
 
+-- the array beside the kind: sixteen bytes
+sixteen : (c : tie.Start Inv-loop μ-loop) → length (c .args .self .bytes) ≡ 16
+sixteen c = search needs
+
+all-bytes : (c : tie.Start Inv-loop μ-loop) → Bytes (c .args .self .bytes)
+all-bytes c = λ k. search needs
+
 loop-again : tie.Need-loop-again Inv-loop μ-loop
 loop-again c =
-    let s = c .before .before .before .before .before .before in
-    let start = s .before .before .before .before .before in
-    let sixteen : length (start .args .self .bytes) ≡ 16 = search needs in
-    let long = s .before .before .before .encoded-length .ensures in
-    word-written (s .before .loop .inv) (λ k. search needs) (s .loop-test .taken) (omega arith) (omega arith) (c .before .before .before .u32-or-zero .ensures) (start .args .at + s .before .loop .done + 4 - (start .args .at + s .before .loop .done)) (omega arith) (c .before .before .put-u32 .ensures .1)
+    let put = c .before .before in
+    let in-loop = put .before .before .before .before in
+    let turn = in-loop .before .loop in
+    let len = in-loop .before .before .before in
+    let start = len .before .before in
+    let long = len .encoded-length .ensures in
+    let from = start .args .at + turn .done in
+    word-written (turn .inv) (all-bytes start) (in-loop .loop-test .taken) (omega (arith, sixteen start)) (omega arith)
+    (put .before .u32-or-zero .ensures) (from + 4 - from) (omega arith) (put .put-u32 .ensures .1)
 
 same-length : tie.Need-same-length Inv-loop μ-loop
 same-length c = length-written (c .before .loop .inv)
@@ -78,9 +94,11 @@ same-length c = length-written (c .before .loop .inv)
 returns : tie.Need-returns Inv-loop μ-loop
 unfolding wireHostBytes
 returns c =
-    let start = c .before .before .before .before .before in
-    let all : c .before .loop .done ≡ hostLength (start .args .self .kind) = omega (arith, c .loop-test .left, c .before .before .before .encoded-length .ensures .0) in
-    c .before .loop .inv .so-far ∙ ap (λ (n : ℕ). sets (start .args .dst .now) (start .args .at) (take n (start .args .self .bytes))) all
+    let turn = c .before .loop in
+    let len = c .before .before .before in
+    let args = len .before .before .args in
+    let all : turn .done ≡ hostLength (args .self .kind) = omega (arith, c .loop-test .left, len .encoded-length .ensures .0) in
+    turn .inv .so-far ∙ ap (λ (n : ℕ). sets (args .dst .now) (args .at) (take n (args .self .bytes))) all
 
 pub put-spec : {M : Type 1} → statement M
 put-spec =

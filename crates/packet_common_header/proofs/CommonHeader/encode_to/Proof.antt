@@ -1,21 +1,103 @@
--- `CommonHeader::encode_to` meets its contract: a header that the tests let through is written whole.
-use mathlib.Core.Path.{sym, _∙_}
-use Rattle.packet_common_header.specs.CommonHeader.{commonBytes}
-use Rattle.errors.proofs.Errors.{written, kept}
-use Rattle.packet_common_header.proofs.CommonHeaderLaws.{common-written, length-commonBytes}
+-- `CommonHeader::encode_to` meets its contract: the same tests in the same order; each number is then written by its digits, and none
+-- is wider than its field.
+use mathlib.Core.Path.{_≡_, refl, sym, _∙_}
+use mathlib.Core.Bool.{true}
+use native.Mathlib.Omega.{arith}
+use borrow.Author.Tests.{eq-eqb, ne-eqb, not-true, not-false}
+use Rattle.errors.specs.Errors.{encodedOf}
+use Rattle.errors.proofs.Errors.{written}
 use Rattle.wire_encoding.proofs.Writes.{placed-whole}
+use Rattle.packet_common_header.specs.CommonHeader.{commonFits, commonBytes, writeCommon}
+use Rattle.packet_common_header.proofs.CommonHeaderLaws.{
+  length-commonBytes,
+  Widths,
+  common-widths,
+  common-written,
+  Fields,
+  first-fits,
+  common-digits,
+}
 use borrow.Author.Needs.{needs}
 use Rattle.packet_common_header.proofs.CommonHeader.encode_to.Statement.{statement}
 use Rattle.packet_common_header.proofs.CommonHeader.encode_to.Tie as tie
 
-check-requires : tie.Need-check-requires
-check-requires c κs = search needs
+fields-fit-requires : tie.Need-fields-fit-requires
+fields-fit-requires c κs = search needs
 
-enum-told : tie.Need-enum-told
-enum-told c = search needs
+returns : tie.Need-returns
+unfolding writeCommon commonFits encodedOf
+returns c = rw (← c .before .fields-fit .ensures, not-true (c .before .fields-fit .result) (c .if1 .taken)) (refl, refl)
 
-to-bytes-requires : tie.Need-to-bytes-requires
-to-bytes-requires c κs = common-written _ _ (sym (c .before .before .check .ensures) ∙ c .enum-told .given .1) .fits
+-- the numbers fit
+fits : (c : tie.Else1) → commonFits (c .before .before .before .args .self) ≡ true
+unfolding commonFits
+fits c = sym (c .before .fields-fit .ensures) ∙ not-false (c .before .fields-fit .result) (c .if1 .left)
+
+returns-2 : tie.Need-returns-2
+unfolding writeCommon encodedOf
+returns-2 c = rw (fits (c .before .before), eq-eqb _ _ (c .if2 .taken)) (refl, refl)
+
+returns-3 : tie.Need-returns-3
+unfolding writeCommon encodedOf
+returns-3 c = rw (fits (c .before .before .before), ne-eqb _ _ (c .before .if2 .left), ne-eqb _ _ (c .if3 .taken)) (refl, refl)
+
+cast-first : tie.Need-cast-first
+cast-first c = search needs
+
+mul-first : tie.Need-mul-first
+mul-first c = search needs
+
+cast-first-2 : tie.Need-cast-first-2
+cast-first-2 c = search needs
+
+add-first : tie.Need-add-first
+add-first c = search needs
+
+-- every field fits its bits: those that were tested, and the others by their types
+typed : (c : tie.Start) → Widths (c .args .self) → Fields (c .args .self)
+typed c w = record { widths = w; class = search needs; payload = search needs; reserved = search needs }
+
+fields : (c : tie.Else3) → let fit = c .before .before .before in
+    Fields (fit .before .before .before .args .self)
+fields c =
+    let fit = c .before .before .before in
+    typed (fit .before .before .before) (common-widths _ (fits fit))
+
+mul-first-2 : tie.Need-mul-first-2
+mul-first-2 c = omega (arith, fields (c .before .before) .widths .version)
+
+add-first-2 : tie.Need-add-first-2
+add-first-2 c = omega (arith, first-fits _ (fields (c .before .before)))
+
+cast-t19 : tie.Need-cast-t19
+cast-t19 c = let w = fields (c .before .before) .widths in omega (arith, w .version, w .flow)
+
+cast-t20 : tie.Need-cast-t20
+cast-t20 c = search needs
+
+cast-t21 : tie.Need-cast-t21
+cast-t21 c = search needs
+
+cast-t23 : tie.Need-cast-t23
+cast-t23 c = search needs
+
+cast-t25 : tie.Need-cast-t25
+cast-t25 c = search needs
+
+cast-t27 : tie.Need-cast-t27
+cast-t27 c = search needs
+
+mul-t28 : tie.Need-mul-t28
+mul-t28 c = omega (arith, fields (c .before .before .before) .widths .destination)
+
+add-t29 : tie.Need-add-t29
+add-t29 c = let w = fields (c .before .before .before .before) .widths in omega (arith, w .destination, w .source)
+
+cast-t31 : tie.Need-cast-t31
+cast-t31 c = search needs
+
+cast-t33 : tie.Need-cast-t33
+cast-t33 c = search needs
 
 slice-aggregate-put-slice : tie.Need-slice-aggregate-put-slice
 slice-aggregate-put-slice c = search needs
@@ -23,33 +105,47 @@ slice-aggregate-put-slice c = search needs
 put-slice-requires : tie.Need-put-slice-requires
 put-slice-requires c κs = search needs
 
-enum-known-error : tie.Need-enum-known-error
-enum-known-error c = search needs
-
 same-length : tie.Need-same-length
 same-length c = search needs
 
-returns : tie.Need-returns
-returns c =
-    let s = c .before .before .before .before .before in
-    let args = s .before .before .before .before .before .args in
-    let w = common-written (args .self) _ (sym (s .before .before .before .check .ensures) ∙ s .before .enum-told .given .1) in
-    let bytes = rw (s .to-bytes .ensures) at (c .before .before .put-slice .ensures .1) in
-    written _ _ (w .result) (bytes ∙ placed-whole (commonBytes (args .self)) (args .dst .now) (length-commonBytes (args .self) ∙ sym (w .exact)))
-
-returns-2 : tie.Need-returns-2
-returns-2 c = kept _ _ (sym (c .before .before .before .check .ensures) ∙ c .before .error .given .1)
+returns-4 : tie.Need-returns-4
+returns-4 c =
+    let put = c .before .before in
+    let made = put .before .before .before in
+    let tested = made .before .before .before .before in
+    let fit = tested .before .before .before in
+    let args = fit .before .before .before .args in
+    let header = args .self in
+    let digits = common-digits header (fields tested) in
+    let exact = tested .if3 .left in
+    written _ _ (common-written header _ (fits fit) (tested .before .if2 .left) exact)
+    (rw digits at (put .put-slice .ensures .1) ∙ placed-whole (commonBytes header) (args .dst .now) (length-commonBytes header ∙ sym exact))
 
 pub encode-to-spec : {M : Type 1} → statement M
 encode-to-spec =
     tie.close
     (tie.spec
-    check-requires
-    enum-told
-    to-bytes-requires
+    fields-fit-requires
+    returns
+    returns-2
+    returns-3
+    cast-first
+    mul-first
+    cast-first-2
+    add-first
+    mul-first-2
+    add-first-2
+    cast-t19
+    cast-t20
+    cast-t21
+    cast-t23
+    cast-t25
+    cast-t27
+    mul-t28
+    add-t29
+    cast-t31
+    cast-t33
     slice-aggregate-put-slice
     put-slice-requires
-    enum-known-error
     same-length
-    returns
-    returns-2)
+    returns-4)

@@ -19,7 +19,9 @@ add-t11 c = search needs
 
 returns : tie.Need-returns
 unfolding newHeaders
-returns c = rw (c .before .encoded-length .ensures .0, c .path-length .ensures, factor-is (c .before .before .args .address) (c .before .before .args .path-type) (c .before .before .args .path-len))
+returns c =
+    let args = c .before .before .args in
+    rw (c .before .encoded-length .ensures .0, c .path-length .ensures, factor-is (args .address) (args .path-type) (args .path-len))
 
 pub new-spec : {M : Type 1} → statement M
 new-spec =

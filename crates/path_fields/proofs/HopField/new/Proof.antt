@@ -41,9 +41,17 @@ u16-or-zero-requires-2 c κs = search needs
 returns : tie.Need-returns
 unfolding newHopField hopFieldAt
 returns c =
-    let s = c .before .before .before .before .before .before .before .before .before .before in
+    let code = c .before .before .before .before .before in
+    let s = code .before .before .before .before .before in
     let part = s .before .before .args .part .now in
-    rw (eq-eqb _ _ (s .if1 .taken), part-bytes 6 6 part (omega arith), c .before .u16-or-zero .ensures, or-zero-is 2 part 2 (omega arith), c .u16-or-zero2 .ensures, or-zero-is 2 part 4 (omega arith))
+    rw (
+      eq-eqb _ _ (s .if1 .taken),
+      part-bytes 6 6 part (omega arith),
+      c .before .u16-or-zero .ensures,
+      or-zero-is 2 part 2 (omega arith),
+      c .u16-or-zero2 .ensures,
+      or-zero-is 2 part 4 (omega arith),
+    )
 
 returns-2 : tie.Need-returns-2
 unfolding newHopField zeroHopField

@@ -24,7 +24,13 @@ unfolding newInfoField infoFieldAt
 returns c =
     let s = c .before .before .before .before in
     let part = s .before .before .args .part .now in
-    rw (eq-eqb _ _ (s .if1 .taken), c .before .u16-or-zero .ensures, or-zero-is 2 part 2 (omega arith), c .u32-or-zero .ensures, or-zero-is 4 part 4 (omega arith))
+    rw (
+      eq-eqb _ _ (s .if1 .taken),
+      c .before .u16-or-zero .ensures,
+      or-zero-is 2 part 2 (omega arith),
+      c .u32-or-zero .ensures,
+      or-zero-is 4 part 4 (omega arith),
+    )
 
 returns-2 : tie.Need-returns-2
 unfolding newInfoField zeroInfoField

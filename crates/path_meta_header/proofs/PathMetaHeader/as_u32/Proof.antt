@@ -1,11 +1,15 @@
 -- `as_u32` meets its contract: numbers that fit their fields make a word of 32 bits.
-use mathlib.Core.Path.{sym, _∙_}
+use mathlib.Core.Path.{_≡_, sym, _∙_}
+use mathlib.Core.Bool.{true}
 use native.Mathlib.Omega.{arith}
-use Rattle.path_meta_header.specs.Encoding as metaEncoding
+use Rattle.path_meta_header.specs.Encoding as encoding
 use Rattle.path_meta_header.proofs.Encoding.{Fitting, fitting}
 use borrow.Author.Needs.{needs}
 use Rattle.path_meta_header.proofs.PathMetaHeader.as_u32.Statement.{statement}
 use Rattle.path_meta_header.proofs.PathMetaHeader.as_u32.Tie as tie
+
+fits : (c : tie.Then1) → encoding.metaFits (c .before .before .before .args .self) ≡ true
+fits c = sym (c .before .fields-fit .ensures) ∙ c .if1 .taken
 
 fields-fit-requires : tie.Need-fields-fit-requires
 fields-fit-requires c κs = search needs
@@ -68,23 +72,27 @@ add-number-5 : tie.Need-add-number-5
 add-number-5 c = search needs
 
 cast-t27 : tie.Need-cast-t27
-cast-t27 c = let f : Fitting (c .before .before .before .before .before .before .before .before .before .args .self) = fitting (c .before .before .before .before .before .before .before .before .before .args .self) (sym (c .before .before .before .before .before .before .before .fields-fit .ensures) ∙ c .before .before .before .before .before .before .if1 .taken) in omega arith
+cast-t27 c =
+    let third = c .before .before .before in
+    let f : Fitting _ = fitting _ (fits (third .before .before .before)) in
+    omega arith
 
 returns : tie.Need-returns
-unfolding metaEncoding.asWord metaEncoding.wordOf
+unfolding encoding.asWord encoding.wordOf
 returns c =
+    let third = c .before .before .before in
     rw (
-      c .before .before .before .before .before .wide .ensures .0,
-      c .before .before .before .before .wide2 .ensures .0,
-      c .before .before .before .wide3 .ensures .0,
+      third .before .before .wide .ensures .0,
+      third .before .wide2 .ensures .0,
+      third .wide3 .ensures .0,
       c .before .before .wide4 .ensures .0,
       c .before .wide5 .ensures .0,
       c .wide6 .ensures .0,
-      sym (c .before .before .before .before .before .before .before .fields-fit .ensures) ∙ c .before .before .before .before .before .before .if1 .taken,
+      fits (third .before .before .before),
     )
 
 returns-2 : tie.Need-returns-2
-unfolding metaEncoding.asWord
+unfolding encoding.asWord
 returns-2 c = rw (sym (c .before .fields-fit .ensures) ∙ c .if1 .left)
 
 pub as-u32-spec : {M : Type 1} → statement M

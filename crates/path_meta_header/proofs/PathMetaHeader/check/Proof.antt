@@ -1,9 +1,18 @@
 -- `check` meets its contract: the three rules, in their order.
+use mathlib.Core.Path.{_≡_, sym, _∙_}
+use mathlib.Core.Bool.{true}
 use borrow.Author.Tests.{not-true, not-false}
-use Rattle.path_meta_header.specs.MetaHeader.{checked, metaRead}
+use Rattle.path_meta_header.specs.MetaHeader.{lengthsValid, infoValid, checked, metaRead}
 use borrow.Author.Needs.{needs}
 use Rattle.path_meta_header.proofs.PathMetaHeader.check.Statement.{statement}
 use Rattle.path_meta_header.proofs.PathMetaHeader.check.Tie as tie
+
+-- what each test that was passed says
+lengths : (c : tie.Else1) → lengthsValid (c .before .before .args .self) ≡ true
+lengths c = sym (c .before .lengths-valid .ensures) ∙ not-false _ (c .if1 .left)
+
+info : (c : tie.Else2) → infoValid (c .before .before .before .before .args .self) ≡ true
+info c = sym (c .before .info-valid .ensures) ∙ not-false _ (c .if2 .left)
 
 lengths-valid-requires : tie.Need-lengths-valid-requires
 lengths-valid-requires c κs = search needs
@@ -13,7 +22,9 @@ invalid-requires c κs = search needs
 
 returns : tie.Need-returns
 unfolding checked
-returns c = rw (← c .before .before .lengths-valid .ensures, not-true (c .before .before .lengths-valid .result) (c .before .if1 .taken)) (c .invalid .ensures)
+returns c =
+    let test = c .before in
+    rw (sym (test .before .lengths-valid .ensures) ∙ not-true _ (test .if1 .taken)) (c .invalid .ensures)
 
 info-valid-requires : tie.Need-info-valid-requires
 info-valid-requires c κs = search needs
@@ -23,7 +34,9 @@ invalid-requires-2 c κs = search needs
 
 returns-2 : tie.Need-returns-2
 unfolding checked
-returns-2 c = rw (← c .before .before .before .before .lengths-valid .ensures, not-false (c .before .before .before .before .lengths-valid .result) (c .before .before .before .if1 .left), ← c .before .before .info-valid .ensures, not-true (c .before .before .info-valid .result) (c .before .if2 .taken)) (c .invalid2 .ensures)
+returns-2 c =
+    let test = c .before in
+    rw (lengths (test .before .before), sym (test .before .info-valid .ensures) ∙ not-true _ (test .if2 .taken)) (c .invalid2 .ensures)
 
 hop-valid-requires : tie.Need-hop-valid-requires
 hop-valid-requires c κs = search needs
@@ -33,11 +46,16 @@ invalid-requires-3 c κs = search needs
 
 returns-3 : tie.Need-returns-3
 unfolding checked
-returns-3 c = rw (← c .before .before .before .before .before .before .lengths-valid .ensures, not-false (c .before .before .before .before .before .before .lengths-valid .result) (c .before .before .before .before .before .if1 .left), ← c .before .before .before .before .info-valid .ensures, not-false (c .before .before .before .before .info-valid .result) (c .before .before .before .if2 .left), ← c .before .before .hop-valid .ensures, not-true (c .before .before .hop-valid .result) (c .before .if3 .taken)) (c .invalid3 .ensures)
+returns-3 c =
+    let test = c .before in
+    let second = test .before .before in
+    rw (lengths (second .before .before), info second, sym (test .before .hop-valid .ensures) ∙ not-true _ (test .if3 .taken)) (c .invalid3 .ensures)
 
 returns-4 : tie.Need-returns-4
 unfolding checked metaRead
-returns-4 c = rw (← c .before .before .before .before .before .lengths-valid .ensures, not-false (c .before .before .before .before .before .lengths-valid .result) (c .before .before .before .before .if1 .left), ← c .before .before .before .info-valid .ensures, not-false (c .before .before .before .info-valid .result) (c .before .before .if2 .left), ← c .before .hop-valid .ensures, not-false (c .before .hop-valid .result) (c .if3 .left))
+returns-4 c =
+    let second = c .before .before in
+    rw (lengths (second .before .before), info second, sym (c .before .hop-valid .ensures) ∙ not-false _ (c .if3 .left))
 
 pub check-spec : {M : Type 1} → statement M
 check-spec =

@@ -26,9 +26,11 @@ same-length c = search needs
 
 returns : tie.Need-returns
 returns c =
-    let m = c .before .before .before .before .before .before .before .before .before .before .args .self in
-    let known = word-is m (rw (c .before .before .before .before .before .before .number .given .1) at (c .before .before .before .before .before .before .before .before .as-u32 .ensures)) in
-    let size = c .before .before .before .before .if1 .taken in
+    let test = c .before .before .before .before in
+    let told = test .before .before in
+    let m = told .before .before .before .before .args .self in
+    let known = word-is m (rw (told .number .given .1) at (told .before .before .as-u32 .ensures)) in
+    let size = test .if1 .taken in
     written _ _ (meta-written m _ (known .0) size)
     (rw (known .1) at (c .before .before .put-u32 .ensures .1) ∙ placed-whole (bytesOf 4 (wordOf m)) _ (length-bytesOf 4 (wordOf m) ∙ sym size))
 
@@ -38,12 +40,16 @@ enum-told c = search needs
 returns-2 : tie.Need-returns-2
 unfolding writeMeta encodedOf
 returns-2 c =
-    let m = c .before .before .before .before .before .before .args .self in
-    rw (word-is m (rw (c .before .before .number .given .1) at (c .before .before .before .before .as-u32 .ensures)) .0, ne-eqb _ _ (c .if1 .left)) (refl, refl)
+    let told = c .before .before in
+    let m = told .before .before .before .before .args .self in
+    let known = word-is m (rw (told .number .given .1) at (told .before .before .as-u32 .ensures)) in
+    rw (known .0, ne-eqb _ _ (c .if1 .left)) (refl, refl)
 
 returns-3 : tie.Need-returns-3
 unfolding writeMeta encodedOf
-returns-3 c = rw (word-wide (c .before .before .before .before .args .self) (rw (c .enum-told .given .1) at (c .before .before .as-u32 .ensures))) (refl, refl)
+returns-3 c =
+    let call = c .before .before in
+    rw (word-wide (call .before .before .args .self) (rw (c .enum-told .given .1) at (call .as-u32 .ensures))) (refl, refl)
 
 pub encode-to-spec : {M : Type 1} → statement M
 encode-to-spec =

@@ -1,31 +1,44 @@
 -- `fields_fit` meets its contract: the tests in their order.
-use mathlib.Core.Path.{sym, _∙_}
+use mathlib.Core.Path.{_≡_, sym, _∙_}
+use mathlib.Core.Bool.{true}
 use borrow.Author.Tests.{not-true, not-false}
-use Rattle.path_meta_header.specs.Encoding as metaEncoding
+use Rattle.path_meta_header.specs.Encoding as encoding
 use borrow.Author.Needs.{needs}
 use Rattle.path_meta_header.proofs.PathMetaHeader.fields_fit.Statement.{statement}
 use Rattle.path_meta_header.proofs.PathMetaHeader.fields_fit.Tie as tie
+
+-- what each test that was passed says
+info : (c : tie.Else1) → encoding.fits 2 (c .before .before .before .args .self .«current_info_field») ≡ true
+info c = sym (c .before .fits-2 .ensures) ∙ not-false _ (c .if1 .left)
+
+hop : (c : tie.Else2) → encoding.fits 6 (c .before .before .before .before .before .args .self .«current_hop_field») ≡ true
+hop c = sym (c .before .fits-6 .ensures) ∙ not-false _ (c .if2 .left)
+
+reserved : (c : tie.Else3) → let first = c .before .before .before .before in encoding.fits 6 (first .before .before .before .args .self .reserved) ≡ true
+reserved c = sym (c .before .fits-62 .ensures) ∙ not-false _ (c .if3 .left)
 
 fits-2-requires : tie.Need-fits-2-requires
 fits-2-requires c κs = search needs
 
 returns : tie.Need-returns
-unfolding metaEncoding.metaFits
+unfolding encoding.metaFits
 returns c = rw (sym (c .before .fits-2 .ensures) ∙ not-true _ (c .if1 .taken))
 
 fits-6-requires : tie.Need-fits-6-requires
 fits-6-requires c κs = search needs
 
 returns-2 : tie.Need-returns-2
-unfolding metaEncoding.metaFits
-returns-2 c = rw (sym (c .before .before .before .fits-2 .ensures) ∙ not-false _ (c .before .before .if1 .left), sym (c .before .fits-6 .ensures) ∙ not-true _ (c .if2 .taken))
+unfolding encoding.metaFits
+returns-2 c = rw (info (c .before .before), sym (c .before .fits-6 .ensures) ∙ not-true _ (c .if2 .taken))
 
 fits-6-requires-2 : tie.Need-fits-6-requires-2
 fits-6-requires-2 c κs = search needs
 
 returns-3 : tie.Need-returns-3
-unfolding metaEncoding.metaFits
-returns-3 c = rw (sym (c .before .before .before .before .before .fits-2 .ensures) ∙ not-false _ (c .before .before .before .before .if1 .left), sym (c .before .before .before .fits-6 .ensures) ∙ not-false _ (c .before .before .if2 .left), sym (c .before .fits-62 .ensures) ∙ not-true _ (c .if3 .taken))
+unfolding encoding.metaFits
+returns-3 c =
+    let second = c .before .before in
+    rw (info (second .before .before), hop second, sym (c .before .fits-62 .ensures) ∙ not-true _ (c .if3 .taken))
 
 array-read-fits-6 : tie.Need-array-read-fits-6
 array-read-fits-6 c = search needs
@@ -34,8 +47,11 @@ fits-6-requires-3 : tie.Need-fits-6-requires-3
 fits-6-requires-3 c κs = search needs
 
 returns-4 : tie.Need-returns-4
-unfolding metaEncoding.metaFits
-returns-4 c = rw (sym (c .before .before .before .before .before .before .before .fits-2 .ensures) ∙ not-false _ (c .before .before .before .before .before .before .if1 .left), sym (c .before .before .before .before .before .fits-6 .ensures) ∙ not-false _ (c .before .before .before .before .if2 .left), sym (c .before .before .before .fits-62 .ensures) ∙ not-false _ (c .before .before .if3 .left), sym (c .before .fits-63 .ensures) ∙ not-true _ (c .if4 .taken))
+unfolding encoding.metaFits
+returns-4 c =
+    let third = c .before .before in
+    let second = third .before .before in
+    rw (info (second .before .before), hop second, reserved third, sym (c .before .fits-63 .ensures) ∙ not-true _ (c .if4 .taken))
 
 array-read-fits-6-2 : tie.Need-array-read-fits-6-2
 array-read-fits-6-2 c = search needs
@@ -44,8 +60,13 @@ fits-6-requires-4 : tie.Need-fits-6-requires-4
 fits-6-requires-4 c κs = search needs
 
 returns-5 : tie.Need-returns-5
-unfolding metaEncoding.metaFits
-returns-5 c = rw (sym (c .before .before .before .before .before .before .before .before .before .fits-2 .ensures) ∙ not-false _ (c .before .before .before .before .before .before .before .before .if1 .left), sym (c .before .before .before .before .before .before .before .fits-6 .ensures) ∙ not-false _ (c .before .before .before .before .before .before .if2 .left), sym (c .before .before .before .before .before .fits-62 .ensures) ∙ not-false _ (c .before .before .before .before .if3 .left), sym (c .before .before .before .fits-63 .ensures) ∙ not-false _ (c .before .before .if4 .left), sym (c .before .fits-64 .ensures) ∙ not-true _ (c .if5 .taken))
+unfolding encoding.metaFits
+returns-5 c =
+    let fourth = c .before .before in
+    let third = fourth .before .before in
+    let second = third .before .before in
+    let length = sym (fourth .before .fits-63 .ensures) ∙ not-false _ (fourth .if4 .left) in
+    rw (info (second .before .before), hop second, reserved third, length, sym (c .before .fits-64 .ensures) ∙ not-true _ (c .if5 .taken))
 
 array-read-fits-6-3 : tie.Need-array-read-fits-6-3
 array-read-fits-6-3 c = search needs
@@ -54,8 +75,15 @@ fits-6-requires-5 : tie.Need-fits-6-requires-5
 fits-6-requires-5 c κs = search needs
 
 returns-6 : tie.Need-returns-6
-unfolding metaEncoding.metaFits
-returns-6 c = rw (sym (c .before .before .before .before .before .before .before .before .before .before .fits-2 .ensures) ∙ not-false _ (c .before .before .before .before .before .before .before .before .before .if1 .left), sym (c .before .before .before .before .before .before .before .before .fits-6 .ensures) ∙ not-false _ (c .before .before .before .before .before .before .before .if2 .left), sym (c .before .before .before .before .before .before .fits-62 .ensures) ∙ not-false _ (c .before .before .before .before .before .if3 .left), sym (c .before .before .before .before .fits-63 .ensures) ∙ not-false _ (c .before .before .before .if4 .left), sym (c .before .before .fits-64 .ensures) ∙ not-false _ (c .before .if5 .left)) (c .fits-65 .ensures)
+unfolding encoding.metaFits
+returns-6 c =
+    let fifth = c .before in
+    let fourth = fifth .before .before in
+    let third = fourth .before .before in
+    let second = third .before .before in
+    let first-length = sym (fourth .before .fits-63 .ensures) ∙ not-false _ (fourth .if4 .left) in
+    let second-length = sym (fifth .before .fits-64 .ensures) ∙ not-false _ (fifth .if5 .left) in
+    rw (info (second .before .before), hop second, reserved third, first-length, second-length) (c .fits-65 .ensures)
 
 pub fields-fit-spec : {M : Type 1} → statement M
 fields-fit-spec =

@@ -4,16 +4,14 @@ use borrow.Author.Tests.{lt-ltb, le-ltb}
 use Prim.Native.Nat.{_<_, _≤_}
 use Rattle.path_meta_header.specs.MetaHeader as spec
 use borrow.Author.Needs.{needs}
-use Rattle.path_meta_header.proofs.PathMetaHeader.hop_field_offset.Statement.{
-  statement,
-}
+use Rattle.path_meta_header.proofs.PathMetaHeader.hop_field_offset.Statement.{statement}
 use Rattle.path_meta_header.proofs.PathMetaHeader.hop_field_offset.Tie as tie
 
 hop-fields-count-requires : tie.Need-hop-fields-count-requires
 hop-fields-count-requires c κs = search needs
 
-info-fields-count-requires : tie.Need-info-fields-count-requires
-info-fields-count-requires c κs = search needs
+hop-fields-start-requires : tie.Need-hop-fields-start-requires
+hop-fields-start-requires c κs = search needs
 
 mul-t6 : tie.Need-mul-t6
 mul-t6 c = search needs
@@ -21,29 +19,21 @@ mul-t6 c = search needs
 add-t7 : tie.Need-add-t7
 add-t7 c = search needs
 
-mul-t8 : tie.Need-mul-t8
-mul-t8 c = search needs
-
-add-t9 : tie.Need-add-t9
-add-t9 c = search needs
-
 returns : tie.Need-returns
 unfolding spec.hopFieldOffset
-returns c = let h : c .before .before .before .args .index < spec.hopFieldsCount (c .before .before .before .args .self) = omega arith in rw (lt-ltb _ _ h, c .info-fields-count .ensures .0)
+returns c =
+    let a = c .before .before .before .args in
+    let there : a .index < spec.hopFieldsCount (a .self) = omega arith in
+    rw (lt-ltb _ _ there, c .hop-fields-start .ensures .0)
 
 returns-2 : tie.Need-returns-2
 unfolding spec.hopFieldOffset
-returns-2 c = let h : spec.hopFieldsCount (c .before .before .args .self) ≤ c .before .before .args .index = omega arith in rw (le-ltb _ _ h)
+returns-2 c =
+    let a = c .before .before .args in
+    let beyond : spec.hopFieldsCount (a .self) ≤ a .index = omega arith in
+    rw (le-ltb _ _ beyond)
 
 pub hop-field-offset-spec : {M : Type 1} → statement M
 hop-field-offset-spec =
     tie.close
-    (tie.spec
-    hop-fields-count-requires
-    info-fields-count-requires
-    mul-t6
-    add-t7
-    mul-t8
-    add-t9
-    returns
-    returns-2)
+    (tie.spec hop-fields-count-requires hop-fields-start-requires mul-t6 add-t7 returns returns-2)

@@ -34,14 +34,18 @@ at-start-requires-3 c κs = search needs
 
 returns-3 : tie.Need-returns-3
 unfolding reversal.reversedMeta reversal.reversedLengths infoFieldsCount
-returns-3 c = rw (ne-eqb _ _ (c .before .before .before .if1 .left), ne-eqb _ _ (c .before .before .if2 .left), eq-eqb _ _ (c .before .if3 .taken)) (c .at-start3 .ensures)
+returns-3 c =
+    rw (ne-eqb _ _ (c .before .before .before .if1 .left), ne-eqb _ _ (c .before .before .if2 .left), eq-eqb _ _ (c .before .if3 .taken))
+    (c .at-start3 .ensures)
 
 at-start-requires-4 : tie.Need-at-start-requires-4
 at-start-requires-4 c κs = search needs
 
 returns-4 : tie.Need-returns-4
 unfolding reversal.reversedMeta reversal.reversedLengths infoFieldsCount
-returns-4 c = rw (ne-eqb _ _ (c .before .before .before .if1 .left), ne-eqb _ _ (c .before .before .if2 .left), ne-eqb _ _ (c .before .if3 .left)) (c .at-start4 .ensures)
+returns-4 c =
+    rw (ne-eqb _ _ (c .before .before .before .if1 .left), ne-eqb _ _ (c .before .before .if2 .left), ne-eqb _ _ (c .before .if3 .left))
+    (c .at-start4 .ensures)
 
 pub to-reversed-spec : {M : Type 1} → statement M
 to-reversed-spec =

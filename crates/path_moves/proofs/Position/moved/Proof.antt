@@ -1,10 +1,16 @@
--- `Position::moved` meets its contract: the new segment is another one, or the accumulator of this one changes.
-use borrow.Author.Tests.{eq-eqb, ne-eqb}
+-- `Position::moved` meets its contract: into another segment or past a spared owner nothing is taken in, else the owner's code is.
+use Prim.Native.Nat.{_+_, _*_}
+use mathlib.Core.Path.{_≡_, sym, _∙_}
+use mathlib.Core.Bool.{not}
 use native.Mathlib.Omega.{arith}
-use mathlib.Core.Path.{_∙_}
-use Rattle.path_moves.specs.Moves.{moveFrom}
-use Rattle.path_moves.proofs.Moves.{standing-at}
 use borrow.Author.Needs.{needs}
+use borrow.Author.Tests.{eq-eqb, ne-eqb}
+use Rattle.wire_encoding.proofs.BigEndian.{or-zero-is}
+use Rattle.path.specs.Standard.{infoAt}
+use Rattle.path_moves.specs.Moves.{changeOf, moveFrom, takesIn}
+use Rattle.path_moves.specs.Rules.{ownerOf}
+use Rattle.path_moves.proofs.Moves.{standing-at}
+use Rattle.path_moves.proofs.Rules.{info-read}
 use Rattle.path_moves.proofs.Position.moved.Statement.{statement}
 use Rattle.path_moves.proofs.Position.moved.Tie as tie
 
@@ -20,41 +26,114 @@ add-segment-of c = search needs
 segment-of-requires : tie.Need-segment-of-requires
 segment-of-requires c κs = search needs
 
-cast-t9 : tie.Need-cast-t9
-cast-t9 c = search needs
+cast-t12 : tie.Need-cast-t12
+cast-t12 c = search needs
 
-add-t8 : tie.Need-add-t8
-add-t8 c = search needs
+add-t11 : tie.Need-add-t11
+add-t11 c = search needs
 
-cast-t10 : tie.Need-cast-t10
-cast-t10 c =
+cast-t13 : tie.Need-cast-t13
+cast-t13 c =
     let pre = c .before .before .before .before .pre in
     let known = standing-at _ _ (pre .0) (pre .1) in
     omega arith
 
 returns : tie.Need-returns
-unfolding moveFrom
-returns c = rw (← c .before .before .wide2 .ensures .0, ← c .before .segment-of .ensures .0, ← c .before .before .before .wide .ensures .0, ne-eqb _ _ (c .if1 .taken))
+unfolding moveFrom changeOf takesIn
+returns c =
+    let hop = c .before .before in
+    rw (← hop .wide2 .ensures .0, ← c .before .segment-of .ensures .0, ← hop .before .wide .ensures .0, ne-eqb _ _ (c .if1 .taken))
 
-change-inside-requires : tie.Need-change-inside-requires
-change-inside-requires c κs =
-    let pre = c .before .before .before .before .before .pre in
-    let known = standing-at _ _ (pre .0) (pre .1) in
-    let segment = c .before .before .before .wide .ensures in
-    (pre .0, (segment .0 ∙ known .1, omega arith))
+mul-at : tie.Need-mul-at
+mul-at c = search needs
+
+add-at : tie.Need-add-at
+add-at c = search needs
+
+at-requires : tie.Need-at-requires
+at-requires c κs = search needs
+
+owner-of-requires : tie.Need-owner-of-requires
+owner-of-requires c κs = search needs
+
+segment-length-requires : tie.Need-segment-length-requires
+segment-length-requires c κs = search needs
+
+is-spared-requires : tie.Need-is-spared-requires
+is-spared-requires c κs = search needs
+
+-- the info field that was read, and the owner, are the definition's
+info-is : (c : tie.After-at)
+    → let segment = c .before .before .before .before in
+    let a = segment .before .before .args in
+    c .at .result ≡ infoAt (a .bytes .now) (a .self .«current_info_field»)
+info-is c =
+    let segment = c .before .before .before .before in
+    let start = segment .before .before in
+    let known = standing-at _ _ (start .pre .0) (start .pre .1) in
+    rw (← segment .wide .ensures .0) (info-read (start .args .bytes .now) (segment .wide .result) (omega arith) (c .at .ensures))
+
+owner-is : (c : tie.After-owner-of)
+    → let segment = c .before .before .before .before .before in
+    let a = segment .before .before .args in
+    c .owner-of .result ≡ ownerOf (infoAt (a .bytes .now) (a .self .«current_info_field»)) (a .self .«current_hop_field»)
+owner-is c = rw (← info-is (c .before)) (c .owner-of .ensures .0)
+
+-- so a code is taken in unless the answer is that the owner is spared
+taken-is : (c : tie.After-is-spared)
+    → let inside = c .before .before .before .before in
+    let a = inside .before .before .before .before .before .args in
+    takesIn (a .bytes .now) (a .meta-header) (a .self .«current_info_field») (a .self .«current_hop_field») ≡ not (c .is-spared .result)
+unfolding takesIn
+taken-is c =
+    let owner = c .before .before in
+    let inside = owner .before .before in
+    let hop = inside .before .before in
+    let a = hop .before .before .before .args in
+    let next = rw (hop .wide2 .ensures .0) at (inside .before .segment-of .ensures .0) in
+    let stays = sym next ∙ inside .if1 .left ∙ hop .before .wide .ensures .0 in
+    rw (eq-eqb _ _ stays, ← owner-is owner, ← info-is (owner .before), ← c .before .segment-length .ensures .0, ← c .is-spared .ensures)
 
 returns-2 : tie.Need-returns-2
-unfolding moveFrom
+unfolding moveFrom changeOf
 returns-2 c =
-    let pre = c .before .before .before .before .before .before .pre in
-    let hop = c .before .before .before .wide2 .ensures in
+    let inside = c .before .before .before .before .before in
+    let hop = inside .before .before in
+    rw (taken-is (c .before), c .if2 .taken, ← hop .wide2 .ensures .0, ← inside .before .segment-of .ensures .0)
+
+hop-fields-start-requires : tie.Need-hop-fields-start-requires
+hop-fields-start-requires c κs = search needs
+
+mul-owner-at : tie.Need-mul-owner-at
+mul-owner-at c = search needs
+
+add-owner-at : tie.Need-add-owner-at
+add-owner-at c = search needs
+
+add-u16-or-zero : tie.Need-add-u16-or-zero
+add-u16-or-zero c = search needs
+
+u16-or-zero-requires : tie.Need-u16-or-zero-requires
+u16-or-zero-requires c κs = search needs
+
+returns-3 : tie.Need-returns-3
+unfolding moveFrom changeOf
+returns-3 c =
+    let kept = c .before .before in
+    let owner = kept .before .before .before in
+    let hop = owner .before .before .before .before in
+    let start = hop .before .before .before in
+    let known = standing-at _ _ (start .pre .0) (start .pre .1) in
+    let owner-at = c .before .hop-fields-start .result + owner .owner-of .result * 12 in
     rw (
-      ← hop .0,
-      ← c .before .before .segment-of .ensures .0,
-      ← c .before .before .before .before .wide .ensures .0,
-      eq-eqb _ _ (c .before .if1 .left),
-      c .change-inside .ensures,
-      hop .0 ∙ standing-at _ _ (pre .0) (pre .1) .2,
+      taken-is (kept .before),
+      kept .if2 .left,
+      ← owner-is owner,
+      ← hop .wide2 .ensures .0,
+      ← owner .before .before .before .segment-of .ensures .0,
+      ← c .before .hop-fields-start .ensures .0,
+      c .u16-or-zero .ensures,
+      or-zero-is 2 (start .args .bytes .now) (owner-at + 6) (omega arith),
     )
 
 pub moved-spec : {M : Type 1} → statement M
@@ -65,9 +144,20 @@ moved-spec =
     wide-requires-2
     add-segment-of
     segment-of-requires
-    cast-t9
-    add-t8
-    cast-t10
+    cast-t12
+    add-t11
+    cast-t13
     returns
-    change-inside-requires
-    returns-2)
+    mul-at
+    add-at
+    at-requires
+    owner-of-requires
+    segment-length-requires
+    is-spared-requires
+    returns-2
+    hop-fields-start-requires
+    mul-owner-at
+    add-owner-at
+    add-u16-or-zero
+    u16-or-zero-requires
+    returns-3)

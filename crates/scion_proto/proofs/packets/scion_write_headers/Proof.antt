@@ -18,7 +18,10 @@ same-length : tie.Need-same-length
 same-length c = search needs
 
 returns : tie.Need-returns
-returns c = let done = c .before .before .before .encode-to .ensures in rw (← c .before .before .before .before .before .headers-in .ensures) (c .encoded-out .ensures ∙ ap encodedOut (done .0), done .1)
+returns c =
+    let written = c .before .before .before in
+    rw (← written .before .before .headers-in .ensures)
+    (c .encoded-out .ensures ∙ ap encodedOut (written .encode-to .ensures .0), written .encode-to .ensures .1)
 
 pub scion-write-headers-spec : {M : Type 1} → statement M
 scion-write-headers-spec =

@@ -22,8 +22,10 @@ same-length c = search needs
 
 returns : tie.Need-returns
 returns c =
-    let done = c .before .before .before .encode-to .ensures in
-    rw (← c .before .before .before .before .before .before .address-in .ensures, ← c .before .before .before .before .before .new .ensures) (c .encoded-out .ensures ∙ ap encodedOut (done .0), done .1)
+    let written = c .before .before .before in
+    let made = written .before .before in
+    rw (← made .before .address-in .ensures, ← made .new .ensures)
+    (c .encoded-out .ensures ∙ ap encodedOut (written .encode-to .ensures .0), written .encode-to .ensures .1)
 
 pub scion-write-new-headers-spec : {M : Type 1} → statement M
 scion-write-new-headers-spec =

@@ -16,9 +16,9 @@ same-length : tie.Need-same-length
 same-length c = search needs
 
 returns : tie.Need-returns
-returns c = rw (← c .before .before .before .before .before .new .ensures, ← c .before .before .before .copy-to-slice .ensures .0) (c .path-answer-out .ensures, c .before .before .before .copy-to-slice .ensures .1)
+returns c =
+    let call = c .before .before .before in
+    rw (← call .before .before .new .ensures, ← call .copy-to-slice .ensures .0) (c .path-answer-out .ensures, call .copy-to-slice .ensures .1)
 
 pub scion-copy-path-spec : {M : Type 1} → statement M
-scion-copy-path-spec =
-    tie.close
-    (tie.spec new-requires copy-to-slice-requires path-answer-out-requires same-length returns)
+scion-copy-path-spec = tie.close (tie.spec new-requires copy-to-slice-requires path-answer-out-requires same-length returns)

@@ -1,9 +1,10 @@
 -- `scion_reverse_path` meets its contract: the library's reversal, its answer handed over.
-use mathlib.Core.Path.{ap, _∙_}
-use Rattle.scion_paths.specs.Paths.{pathAnswerOut}
 use borrow.Author.Needs.{needs}
 use Rattle.scion_proto.proofs.paths.scion_reverse_path.Statement.{statement}
 use Rattle.scion_proto.proofs.paths.scion_reverse_path.Tie as tie
+
+new-requires : tie.Need-new-requires
+new-requires c κs = search needs
 
 reverse-to-slice-requires : tie.Need-reverse-to-slice-requires
 reverse-to-slice-requires c κs = search needs
@@ -15,8 +16,9 @@ same-length : tie.Need-same-length
 same-length c = search needs
 
 returns : tie.Need-returns
-returns c = let done = c .before .before .before .reverse-to-slice .ensures in (c .path-answer-out .ensures ∙ ap pathAnswerOut (done .0), done .1)
+returns c =
+    let call = c .before .before .before in
+    rw (← call .before .before .new .ensures, ← call .reverse-to-slice .ensures .0) (c .path-answer-out .ensures, call .reverse-to-slice .ensures .1)
 
 pub scion-reverse-path-spec : {M : Type 1} → statement M
-scion-reverse-path-spec =
-    tie.close (tie.spec reverse-to-slice-requires path-answer-out-requires same-length returns)
+scion-reverse-path-spec = tie.close (tie.spec new-requires reverse-to-slice-requires path-answer-out-requires same-length returns)

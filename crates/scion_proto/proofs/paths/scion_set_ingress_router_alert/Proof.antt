@@ -1,4 +1,4 @@
--- `scion_set_ingress_router_alert` meets its contract: the library's alert, its answer handed over.
+-- `scion_set_ingress_router_alert` meets its contract: the library's alert flag, its answer handed over.
 use borrow.Author.Needs.{needs}
 use Rattle.scion_proto.proofs.paths.scion_set_ingress_router_alert.Statement.{statement}
 use Rattle.scion_proto.proofs.paths.scion_set_ingress_router_alert.Tie as tie
@@ -16,14 +16,9 @@ same-length : tie.Need-same-length
 same-length c = search needs
 
 returns : tie.Need-returns
-returns c = rw (← c .before .before .before .before .before .new .ensures, ← c .before .before .before .set-cons-ingress-router-alert .ensures .0) (c .path-answer-out .ensures, c .before .before .before .set-cons-ingress-router-alert .ensures .1)
+returns c =
+    let call = c .before .before .before in
+    rw (← call .before .before .new .ensures, ← call .set-cons-ingress-router-alert .ensures .0) (c .path-answer-out .ensures, call .set-cons-ingress-router-alert .ensures .1)
 
 pub scion-set-ingress-router-alert-spec : {M : Type 1} → statement M
-scion-set-ingress-router-alert-spec =
-    tie.close
-    (tie.spec
-    new-requires
-    set-cons-ingress-router-alert-requires
-    path-answer-out-requires
-    same-length
-    returns)
+scion-set-ingress-router-alert-spec = tie.close (tie.spec new-requires set-cons-ingress-router-alert-requires path-answer-out-requires same-length returns)

@@ -1,9 +1,10 @@
 -- `scion_walk` meets its contract: the library's walk, its answer handed over.
-use mathlib.Core.Path.{ap, _∙_}
-use Rattle.scion_paths.specs.Paths.{walkOut}
 use borrow.Author.Needs.{needs}
 use Rattle.scion_proto.proofs.paths.scion_walk.Statement.{statement}
 use Rattle.scion_proto.proofs.paths.scion_walk.Tie as tie
+
+new-requires : tie.Need-new-requires
+new-requires c κs = search needs
 
 walk-requires : tie.Need-walk-requires
 walk-requires c κs = search needs
@@ -15,8 +16,9 @@ same-length : tie.Need-same-length
 same-length c = search needs
 
 returns : tie.Need-returns
-returns c = let done = c .before .before .before .walk .ensures in (c .walk-out .ensures ∙ ap walkOut (done .0), done .1)
+returns c =
+    let call = c .before .before .before in
+    rw (← call .before .before .new .ensures, ← call .walk .ensures .0) (c .walk-out .ensures, call .walk .ensures .1)
 
 pub scion-walk-spec : {M : Type 1} → statement M
-scion-walk-spec =
-    tie.close (tie.spec walk-requires walk-out-requires same-length returns)
+scion-walk-spec = tie.close (tie.spec new-requires walk-requires walk-out-requires same-length returns)

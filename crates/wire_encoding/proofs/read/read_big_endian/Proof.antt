@@ -28,10 +28,20 @@ cast-byte : tie.Need-cast-byte Inv-loop μ-loop
 cast-byte c = omega (arith, c .shared-slice-known .given (c .before .before .before .args .at + c .before .before .loop .i))
 
 mul-number : tie.Need-mul-number Inv-loop μ-loop
-mul-number c = omega (arith, next-fits (c .before .before .before .args .bytes .now) (c .shared-slice-known .given) (c .before .before .before .args .at) (c .before .before .loop .i) (omega arith))
+mul-number c =
+    omega (
+      arith,
+      next-fits (c .before .before .before .args .bytes .now) (c .shared-slice-known .given) (c .before .before .before .args .at)
+          (c .before .before .loop .i) (omega arith),
+    )
 
 add-number : tie.Need-add-number Inv-loop μ-loop
-add-number c = omega (arith, next-fits (c .before .before .before .args .bytes .now) (c .shared-slice-known .given) (c .before .before .before .args .at) (c .before .before .loop .i) (omega arith))
+add-number c =
+    omega (
+      arith,
+      next-fits (c .before .before .before .args .bytes .now) (c .shared-slice-known .given) (c .before .before .before .args .at)
+          (c .before .before .loop .i) (omega arith),
+    )
 
 add-i : tie.Need-add-i Inv-loop μ-loop
 add-i c = omega arith

@@ -22,9 +22,10 @@ same-length c = search needs
 
 returns : tie.Need-returns
 returns c =
-    let a = c .before .before .before .before .before .before .before .before .args in
-    rw (done (a .dst .now) (a .at) (a .src .now) _ refl (leb-true _ _ (sym (c .before .before .before .before .before .has-room .ensures) ∙ c .before .before .before .before .if1 .taken)))
-    (refl, c .before .before .write-bytes .ensures)
+    let test = c .before .before .before .before in
+    let room = sym (test .before .has-room .ensures) ∙ test .if1 .taken in
+    let a = test .before .before .before .before .args in
+    rw (done (a .dst .now) (a .at) (a .src .now) _ refl (leb-true _ _ room)) (refl, c .before .before .write-bytes .ensures)
 
 returns-2 : tie.Need-returns-2
 returns-2 c =

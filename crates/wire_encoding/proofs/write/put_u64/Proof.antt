@@ -23,7 +23,8 @@ same-length c = search needs
 
 returns : tie.Need-returns
 returns c =
-    rw (done _ _ _ 8 (length-bytesOf 8 _) (leb-true _ _ (sym (c .before .before .before .before .before .has-room .ensures) ∙ c .before .before .before .before .if1 .taken)))
+    rw (done _ _ _ 8 (length-bytesOf 8 _)
+    (leb-true _ _ (sym (c .before .before .before .before .before .has-room .ensures) ∙ c .before .before .before .before .if1 .taken)))
     (refl, c .before .before .write-big-endian .ensures)
 
 returns-2 : tie.Need-returns-2

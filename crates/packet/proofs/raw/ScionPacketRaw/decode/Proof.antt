@@ -36,7 +36,9 @@ refused-requires c κs = search needs
 
 returns : tie.Need-returns
 unfolding readPacket
-returns c = rw (common-refused _ (c .before .before .before .before .decode .ensures) (c .before .before .common-answer .given .1)) (c .refused .ensures)
+returns c =
+    let told = c .before .before in
+    rw (common-refused _ (told .before .before .decode .ensures) (told .common-answer .given .1)) (c .refused .ensures)
 
 enum-told : tie.Need-enum-told
 enum-told c = search needs
@@ -47,10 +49,9 @@ header-end-requires c κs = search needs
 -- the common header, and where the headers end
 common : (c : tie.After-header-end) → let s = c .before .before .before .before in
     CommonFound (s .before .before .args .bytes .now) (s .decode .result .header) (c .header-end .result)
-common c = record {
-  common = common-ok _ (c .before .before .before .before .decode .ensures) (c .before .before .enum-told .given .1);
-  ends = c .header-end .ensures .0;
-}
+common c =
+    let told = c .before .before in
+    record { common = common-ok _ (told .before .before .decode .ensures) (told .enum-told .given .1); ends = c .header-end .ensures .0 }
 
 sub-decode-with-context : tie.Need-sub-decode-with-context
 sub-decode-with-context c = end-inside (common c) .0
@@ -73,29 +74,27 @@ refused-requires-2 c κs = search needs
 returns-2 : tie.Need-returns-2
 unfolding readPacket
 returns-2 c =
-    let s = c .before .before .before .before in
-    let found = common (s .before .before) in
-    let read = rw (sees found 12 (end-inside found .0)) at (s .decode-with-context .ensures) in
-    rw (found .common, address-refused _ read (c .before .before .address-answer .given .1)) (c .refused2 .ensures)
+    let told = c .before .before in
+    let read = told .before .before in
+    let found = common (read .before .before) in
+    let seen = rw (sees found 12 (end-inside found .0)) at (read .decode-with-context .ensures) in
+    rw (found .common, address-refused _ seen (told .address-answer .given .1)) (c .refused2 .ensures)
 
 enum-told-2 : tie.Need-enum-told-2
 enum-told-2 c = search needs
 
 -- the address header, and where the path starts
-address : (c : tie.After-address) → let s = c .before .before .before in
-    let h = s .before .before in
+address : (c : tie.After-address) → let a = c .before .before .before in
+    let h = a .before .before in
     let d = h .before .before .before .before in
-    AddressFound (d .before .before .args .bytes .now) (d .decode .result .header) (h .header-end .result) (s .decode-with-context .result .header)
-    (12 + s .decode-with-context .result .length)
+    AddressFound (d .before .before .args .bytes .now) (d .decode .result .header) (h .header-end .result) (a .decode-with-context .result .header)
+    (12 + a .decode-with-context .result .length)
 address c =
-    let s = c .before .before .before in
-    let found = common (s .before .before) in
-    let read = rw (sees found 12 (end-inside found .0)) at (s .decode-with-context .ensures) in
-    record {
-      first = found;
-      address = address-ok _ read (c .before .enum-told2 .given .1);
-      starts = ap (λ n. 12 + n) (address-long _ read (c .before .enum-told2 .given .1));
-    }
+    let read = c .before .before .before in
+    let found = common (read .before .before) in
+    let seen = rw (sees found 12 (end-inside found .0)) at (read .decode-with-context .ensures) in
+    let accepted = c .before .enum-told2 .given .1 in
+    record { first = found; address = address-ok _ seen accepted; starts = ap (λ n. 12 + n) (address-long _ seen accepted) }
 
 add-start : tie.Need-add-start
 add-start c = omega (arith, start-inside (address (c .before)))
@@ -124,30 +123,34 @@ refused-requires-3 c κs = search needs
 returns-3 : tie.Need-returns-3
 unfolding readPacket
 returns-3 c =
-    let s = c .before .before .before .before in
-    let found = address (s .before .before .before .before) in
-    let read = rw (s .before .before .new .ensures, sees-path found) at (s .decode2 .ensures) in
-    rw (found .first .common, found .address, read-refused _ read (c .before .before .path-answer .given .1)) (c .refused3 .ensures)
+    let told = c .before .before in
+    let read = told .before .before in
+    let found = address (read .before .before .before .before) in
+    let seen = rw (read .before .before .new .ensures, sees-path found) at (read .decode2 .ensures) in
+    rw (found .first .common, found .address, read-refused _ seen (told .path-answer .given .1)) (c .refused3 .ensures)
 
 enum-told-3 : tie.Need-enum-told-3
 enum-told-3 c = search needs
 
 -- the path
-path : (c : tie.After-path) → let s = c .before .before .before in
-    let a = s .before .before .before .before .before .before .before in
+path : (c : tie.After-path) → let read = c .before .before .before in
+    let after = read .before .before .before .before in
+    let a = after .before .before .before in
     let h = a .before .before in
     let d = h .before .before .before .before in
     PathFound (d .before .before .args .bytes .now) (d .decode .result .header) (h .header-end .result) (a .decode-with-context .result .header)
     (12 + a .decode-with-context .result .length)
-    (record { header = s .decode2 .result .path .«meta_header»; length = s .decode2 .result .length })
+    (record { header = read .decode2 .result .path .«meta_header»; length = read .decode2 .result .length })
 path c =
-    let s = c .before .before .before in
-    let found = address (s .before .before .before .before) in
-    let read = rw (s .before .before .new .ensures, sees-path found) at (s .decode2 .ensures) in
-    record { second = found; path = read-ok _ read (c .before .enum-told3 .given .1) }
+    let read = c .before .before .before in
+    let found = address (read .before .before .before .before) in
+    let seen = rw (read .before .before .new .ensures, sees-path found) at (read .decode2 .ensures) in
+    record { second = found; path = read-ok _ seen (c .before .enum-told3 .given .1) }
 
 sub-if1 : tie.Need-sub-if1
-sub-if1 c = start-inside (address (c .before .before .before .before .before .before .before))
+sub-if1 c =
+    let read = c .before .before .before in
+    start-inside (address (read .before .before .before .before))
 
 refused-requires-4 : tie.Need-refused-requires-4
 refused-requires-4 c κs = search needs
@@ -166,13 +169,17 @@ refused-requires-5 c κs = search needs
 
 returns-5 : tie.Need-returns-5
 returns-5 c =
-    let s = c .before .before in
-    rw (payload-short (path (s .before .before)) (s .before .if1 .left) (rw (s .payload-size .ensures) at (c .before .if2 .taken))) (c .refused5 .ensures)
+    let size = c .before .before in
+    let whole = size .before in
+    let short = rw (size .payload-size .ensures) at (c .before .if2 .taken) in
+    rw (payload-short (path (whole .before)) (whole .if1 .left) short) (c .refused5 .ensures)
 
 returns-6 : tie.Need-returns-6
 returns-6 c =
-    let s = c .before in
-    rw (s .payload-size .ensures) (packet-split (path (s .before .before)) (s .before .if1 .left) (rw (s .payload-size .ensures) at (c .if2 .left)))
+    let size = c .before in
+    let whole = size .before in
+    let there = rw (size .payload-size .ensures) at (c .if2 .left) in
+    rw (size .payload-size .ensures) (packet-split (path (whole .before)) (whole .if1 .left) there)
 
 pub decode-spec : {M : Type 1} → statement M
 decode-spec =

@@ -1,30 +1,13 @@
--- `ScionPacketRaw::path` meets its contract: the part lies inside the packet, and holds the path's bytes.
-use native.Mathlib.Nat.{add-sub-cancel-left}
-use native.Mathlib.Omega.{arith}
-use Rattle.packet.proofs.RawLaws.{path-handed}
+-- `ScionPacketRaw::path` meets its contract: it is the part that the answer names.
 use borrow.Author.Needs.{needs}
 use Rattle.packet.proofs.raw.ScionPacketRaw.path.Statement.{statement}
 use Rattle.packet.proofs.raw.ScionPacketRaw.path.Tie as tie
 
-decode-requires : tie.Need-decode-requires
-decode-requires c κs = search needs
-
-add-result : tie.Need-add-result
-add-result c = omega (arith, rw (← c .before .decode .ensures) at (path-handed (c .before .before .before .args .bytes .now) .inside))
-
-sub-result : tie.Need-sub-result
-sub-result c = search needs
-
-part-result-start : tie.Need-part-result-start
-part-result-start c = search needs
-
-part-result-end : tie.Need-part-result-end
-part-result-end c = omega (arith, rw (← c .before .decode .ensures) at (path-handed (c .before .before .before .args .bytes .now) .inside))
+part-of-requires : tie.Need-part-of-requires
+part-of-requires c κs = search needs
 
 returns : tie.Need-returns
-returns c = rw add-sub-cancel-left (rw (← c .before .before .decode .ensures) at (path-handed (c .before .before .before .before .args .bytes .now) .holds))
+returns c = c .part-of .ensures
 
 pub path-spec : {M : Type 1} → statement M
-path-spec =
-    tie.close
-    (tie.spec decode-requires add-result sub-result part-result-start part-result-end returns)
+path-spec = tie.close (tie.spec part-of-requires returns)

@@ -1,5 +1,6 @@
--- `DataplanePath::decode` meets its contract: by the type, and for type 1 by what the standard path's reading answers.
+-- `DataplanePath::decode` meets its contract: by the type; a standard path is as long as its header says.
 use borrow.Author.Tests.{eq-eqb, ne-eqb}
+use Rattle.path.proofs.Reading.{path-ok, path-refused}
 use Rattle.path.specs.Dataplane as spec
 use borrow.Author.Needs.{needs}
 use Rattle.path.proofs.dataplane.DataplanePath.decode.Statement.{statement}
@@ -12,19 +13,45 @@ returns : tie.Need-returns
 unfolding spec.readDataplane
 returns c = rw (eq-eqb _ _ (c .before .if1 .taken)) (c .unread .ensures)
 
-standard-requires : tie.Need-standard-requires
-standard-requires c κs = search needs
-
-returns-2 : tie.Need-returns-2
-unfolding spec.readDataplane
-returns-2 c = rw (ne-eqb _ _ (c .before .before .before .if1 .left), eq-eqb _ _ (c .before .if2 .taken)) (c .standard .ensures)
-
 unread-requires-2 : tie.Need-unread-requires-2
 unread-requires-2 c κs = search needs
 
+returns-2 : tie.Need-returns-2
+unfolding spec.readDataplane
+returns-2 c =
+    let first = c .before .before .before in
+    rw (ne-eqb _ _ (first .if1 .left), ne-eqb _ _ (c .before .if2 .taken)) (c .unread2 .ensures)
+
+decode-requires : tie.Need-decode-requires
+decode-requires c κs = search needs
+
+enum-known-answer : tie.Need-enum-known-answer
+enum-known-answer c = search needs
+
+refused-requires : tie.Need-refused-requires
+refused-requires c κs = search needs
+
 returns-3 : tie.Need-returns-3
 unfolding spec.readDataplane
-returns-3 c = rw (ne-eqb _ _ (c .before .before .before .if1 .left), ne-eqb _ _ (c .before .if2 .left)) (c .unread2 .ensures)
+returns-3 c =
+    let told = c .before .before in
+    let tests = told .before .before .before in
+    let read = path-refused _ (told .before .before .decode .ensures) (told .answer .given .1) in
+    rw (ne-eqb _ 0 (tests .before .before .if1 .left), eq-eqb _ 1 (tests .if2 .left), read) (c .refused .ensures)
+
+enum-told : tie.Need-enum-told
+enum-told c = search needs
+
+encoded-path-length-requires : tie.Need-encoded-path-length-requires
+encoded-path-length-requires c κs = search needs
+
+returns-4 : tie.Need-returns-4
+unfolding spec.readDataplane spec.dataplaneRead
+returns-4 c =
+    let told = c .before .before in
+    let tests = told .before .before .before in
+    let read = path-ok _ (told .before .before .decode .ensures) (told .enum-told .given .1) in
+    rw (ne-eqb _ 0 (tests .before .before .if1 .left), eq-eqb _ 1 (tests .if2 .left), read) (rw (c .encoded-path-length .ensures .0))
 
 pub decode-spec : {M : Type 1} → statement M
 decode-spec =
@@ -32,7 +59,12 @@ decode-spec =
     (tie.spec
     unread-requires
     returns
-    standard-requires
-    returns-2
     unread-requires-2
-    returns-3)
+    returns-2
+    decode-requires
+    enum-known-answer
+    refused-requires
+    returns-3
+    enum-told
+    encoded-path-length-requires
+    returns-4)

@@ -1,12 +1,24 @@
 -- `locate_hop_field` meets its contract: the order of calls on standard paths, then the offset.
-use Rattle.path.specs.Dataplane as spec
 use Rattle.path.proofs.Reading.{answer-ok, answer-refused}
+use Rattle.path.specs.Dataplane as spec
 use borrow.Author.Needs.{needs}
 use Rattle.path.proofs.dataplane.DataplanePath.locate_hop_field.Statement.{statement}
 use Rattle.path.proofs.dataplane.DataplanePath.locate_hop_field.Tie as tie
 
 standard-requires : tie.Need-standard-requires
 standard-requires c κs = search needs
+
+enum-known-answer : tie.Need-enum-known-answer
+enum-known-answer c = search needs
+
+refused-requires : tie.Need-refused-requires
+refused-requires c κs = search needs
+
+returns : tie.Need-returns
+unfolding spec.hopFieldIn
+returns c =
+    let told = c .before .before in
+    rw (answer-refused _ (told .before .before .standard .ensures) (told .answer .given .1)) (c .refused .ensures)
 
 enum-told : tie.Need-enum-told
 enum-told c = search needs
@@ -17,29 +29,21 @@ hop-field-offset-requires c κs = search needs
 at-requires : tie.Need-at-requires
 at-requires c κs = search needs
 
-enum-known-answer : tie.Need-enum-known-answer
-enum-known-answer c = search needs
-
-refused-requires : tie.Need-refused-requires
-refused-requires c κs = search needs
-
-returns : tie.Need-returns
-unfolding spec.hopFieldIn
-returns c = rw (answer-ok _ (c .before .before .before .before .standard .ensures) (c .before .before .enum-told .given .1), ← c .before .hop-field-offset .ensures) (c .at .ensures)
-
 returns-2 : tie.Need-returns-2
 unfolding spec.hopFieldIn
-returns-2 c = rw (answer-refused _ (c .before .before .before .before .standard .ensures) (c .before .before .answer .given .1)) (c .refused .ensures)
+returns-2 c =
+    let told = c .before .before .before in
+    rw (answer-ok _ (told .before .before .standard .ensures) (told .enum-told .given .1), ← c .before .hop-field-offset .ensures) (c .at .ensures)
 
 pub locate-hop-field-spec : {M : Type 1} → statement M
 locate-hop-field-spec =
     tie.close
     (tie.spec
     standard-requires
-    enum-told
-    hop-field-offset-requires
-    at-requires
     enum-known-answer
     refused-requires
     returns
+    enum-told
+    hop-field-offset-requires
+    at-requires
     returns-2)

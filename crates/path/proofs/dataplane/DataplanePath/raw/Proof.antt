@@ -1,6 +1,6 @@
 -- `raw` meets its contract: a path is never longer than its bytes.
 use mathlib.Core.Path.{ap, sym}
-use lib.ListN.{length, take}
+use lib.ListN.{take}
 use lib.Seq.{length-take-le}
 use Rattle.path.proofs.Reading.{length-inside}
 use borrow.Author.Needs.{needs}

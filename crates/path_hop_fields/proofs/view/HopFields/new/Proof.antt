@@ -1,5 +1,7 @@
--- `HopFields::new` meets its contract: a walk of its MIR, by hand. `whole` is called on the slice passed, and the struct is made of the slice that it returns. All that the proof knows of `whole` is that it meets its contract.
--- A `&[u8]` is Copy: what it owns is had twice, one copy is kept for the exit, and the other goes to the callee, beside the lifetime's token, which comes back.
+-- `HopFields::new` meets its contract: a walk of its MIR, by hand. `whole` is called on the slice passed, and the struct is made of the
+-- slice that it returns. All that the proof knows of `whole` is that it meets its contract.
+-- A `&[u8]` is Copy: what it owns is had twice, one copy is kept for the exit, and the other goes to the callee, beside the lifetime's
+-- token, which comes back.
 -- Assumes nothing.
 use mathlib.Core.Path.{_≡_, refl}
 use Prim.Native.Nat.{ℕ}
@@ -18,7 +20,27 @@ use contract.Monad.{Fun}
 use contract.Running.{givenOf, tables, tablesOf}
 use types.Kit.{Given, ‵, raw, _⊛_, ⋆, _$_, _∵_, !, qed, by, move, drop, use1, use2, split, pick, rewrite, fsplit, fjoin, suffices, frame, await, done}
 use types.Part.{agg}
-use types.Run.{look, init, forget, stop, from, load, and-then, no-more, assigns, land, returns, enter, alloc1, alloc0, params1, pass1, pass0, free1, free0}
+use types.Run.{
+  look,
+  init,
+  forget,
+  stop,
+  from,
+  load,
+  and-then,
+  no-more,
+  assigns,
+  land,
+  returns,
+  enter,
+  alloc1,
+  alloc0,
+  params1,
+  pass1,
+  pass0,
+  free1,
+  free0,
+}
 use sound.WpLaws.{FmC, fmOf, WpFn-mono}
 use denote.RattleType.{owns}
 use denote.Laws.{Is, shows}
@@ -50,7 +72,8 @@ use Rattle.path_hop_fields.proofs.view.HopFields.new.Code as code
 abbrev stayed : Stays (new.ended .signature .params) (new.ended .kept)
 stayed = (stay-none-slice (0 ∷ []) tt (plain (λ _. u8)) yes, tt)
 
-module _ {M : Type 1} (𝓤 : URA M) (H : Heap 𝓤) (A : Atoms 𝓤) (W : Given 𝓤 H A) (mem : Memory → SProp 𝓤) (run : Routine → Fun 𝓤) (κ : Lft) (q : Share) (s : RefT (List ℕ)) where
+module _ {M : Type 1} (𝓤 : URA M) (H : Heap 𝓤) (A : Atoms 𝓤) (W : Given 𝓤 H A) (mem : Memory → SProp 𝓤) (run : Routine → Fun 𝓤) (κ : Lft) (q : Share)
+    (s : RefT (List ℕ)) where
   abbrev α : NamedLft
   α = namedLft 1 0 tt (κ, tt)
 
@@ -60,48 +83,64 @@ module _ {M : Type 1} (𝓤 : URA M) (H : Heap 𝓤) (A : Atoms 𝓤) (W : Given
   abbrev Own : Fml
   Own = Slice κ .own s (machine s ∷ [])
 
-  goes : ent 𝓤 (onEntry 𝓤 H A new.signature (κ, tt) (q, tt) (s, tt) (machine s ∷ [], tt)) (sep 𝓤 (Part 𝓤 H A spec.whole .pre (passed 𝓤 H A W spec.whole κ q s)) (sem 𝓤 H A Own))
+  goes : ent 𝓤 (onEntry 𝓤 H A new.signature (κ, tt) (q, tt) (s, tt) (machine s ∷ [], tt))
+      (sep 𝓤 (Part 𝓤 H A spec.whole .pre (passed 𝓤 H A W spec.whole κ q s)) (sem 𝓤 H A Own))
   goes =
       qed W (token 𝓤 κ q ∷ ‵ (owns (Slice κ ∷ []) (s, tt) (machine s ∷ [], tt)) ∷ []) ∵
       move ! (1 ∷ []) $ fsplit ! $ use1 W (‵ Own ⊛ ‵ Own) (shr-slice-copy 𝓤 H A W (named 0) κ u8 .twice s (machine s ∷ [])) $ split ! $
       -- [Own; Own; true; the token]
-      move ! (0 ∷ 3 ∷ []) $ use2 W (raw (Part 𝓤 H A spec.whole .pre (passed 𝓤 H A W spec.whole κ q s))) (asks 𝓤 H A W spec.whole κ q s) $ frame ! $ move ! (1 ∷ []) $ drop ! $ done !
+      move ! (0 ∷ 3 ∷ []) $ use2 W (raw (Part 𝓤 H A spec.whole .pre (passed 𝓤 H A W spec.whole κ q s))) (asks 𝓤 H A W spec.whole κ q s) $ frame !
+      $ move ! (1 ∷ []) $ drop ! $ done !
 
-  exits : (r : RefT (List ℕ)) → now r ≡ spec.whole (now s) → ent 𝓤 (⋆ 𝓤 H A (‵ (Slice κ .own r (machine r ∷ [])) ∷ token 𝓤 κ q ∷ ‵ Own ∷ [])) (Post (T′.lowered (holding r)))
+  exits : (r : RefT (List ℕ)) → now r ≡ spec.whole (now s)
+      → ent 𝓤 (⋆ 𝓤 H A (‵ (Slice κ .own r (machine r ∷ [])) ∷ token 𝓤 κ q ∷ ‵ Own ∷ [])) (Post (T′.lowered (holding r)))
   exits r e =
       qed W (‵ (Slice κ .own r (machine r ∷ [])) ∷ token 𝓤 κ q ∷ ‵ Own ∷ []) ∵
-      suffices ! _ (ends-at 𝓤 H A new.ended stayed (new.clauses 𝓤 H A mem run) W (((κ, tt), (q, tt), tt, (s, tt), (machine s ∷ [], tt)), tt) (T′.lowered (holding r)) (holding r) (tt, tt) (tt, tt)) $ says ! e $
+      suffices ! _
+      (ends-at 𝓤 H A new.ended stayed (new.clauses 𝓤 H A mem run) W (((κ, tt), (q, tt), tt, (s, tt), (machine s ∷ [], tt)), tt)
+      (T′.lowered (holding r)) (holding r) (tt, tt) (tt, tt)) $ says ! e $
       move ! (1 ∷ []) $ frame ! $ nothing ! $ move ! (2 ∷ 0 ∷ []) $ fjoin ! $ frame ! $
       -- [what the slice owns]: it is what the struct owns
       nothing ! $ move ! (1 ∷ 0 ∷ []) $ fjoin ! $ by ! (own-shut 𝓤 H A W (T.the-type α) (T′.the-laws α) (r, tt))
 
   module _ (C : Calls 𝓤 H) (Λ : Loops 𝓤 H) (fm : FmC 𝓤 H (W .laws) C) (known : Triple 𝓤 (C #whole) (Part 𝓤 H A spec.whole)) where
-    walk : Is (Slice κ) s (machine s ∷ []) → ent 𝓤 (onEntry 𝓤 H A new.signature (κ, tt) (q, tt) (s, tt) (machine s ∷ [], tt)) (WpFn 𝓤 H C Λ code.function (machine s ∷ []) Post)
+    walk : Is (Slice κ) s (machine s ∷ [])
+        → ent 𝓤 (onEntry 𝓤 H A new.signature (κ, tt) (q, tt) (s, tt) (machine s ∷ [], tt)) (WpFn 𝓤 H C Λ code.function (machine s ∷ []) Post)
     walk p =
         qed W (raw (onEntry 𝓤 H A new.signature (κ, tt) (q, tt) (s, tt) (machine s ∷ [], tt)) ∷ []) ∵ enter ! C Λ code.function (machine s ∷ []) _ $
-        alloc1 ! (λ l₀. alloc1 ! (λ l₁. alloc1 ! (λ l₂. alloc0 ! $ params1 ! $ pass1 ! (init ! 2 refl (shr-slice-lawful 𝓤 H A W (named 0) κ u8 .typed s (machine s ∷ []) p .0)) $ pass0 ! $
+        alloc1 ! (λ l₀. alloc1 !
+        (λ l₁. alloc1 !
+        (λ l₂. alloc0 ! $ params1 ! $ pass1 ! (init ! 2 refl (shr-slice-lawful 𝓤 H A W (named 0) κ u8 .typed s (machine s ∷ []) p .0))
+        $ pass0 ! $
         move ! (6 ∷ []) $ use1 W (raw (Part 𝓤 H A spec.whole .pre (passed 𝓤 H A W spec.whole κ q s)) ⊛ ‵ Own) goes $ split ! $
-        calls-at ! fm (Part 𝓤 H A spec.whole) known (passed 𝓤 H A W spec.whole κ q s) (and-then ! (load ! (from ! (stop !)) (look ! 4 refl)) (no-more !)) (λ u.
+        calls-at ! fm (Part 𝓤 H A spec.whole) known (passed 𝓤 H A W spec.whole κ q s)
+        (and-then ! (load ! (from ! (stop !)) (look ! 4 refl)) (no-more !)) (λ u.
         use1 W (Answer 𝓤 H A W spec.whole κ q s u) (answers 𝓤 H A W spec.whole κ q s u) $ await ! tt $ pick ! (λ r. pick ! (λ e. split ! $
         -- [what the result owns; the token; what s owns; room for _2; …; _1; …; room for _0; …]
         peeks ! (Slice κ) (Is (Slice κ)) (shows 𝓤 H A (Slice κ)) r (u ∷ []) (λ is.
         land ! (from ! (stop !)) (init ! 3 refl (shr-slice-lawful 𝓤 H A W erased κ u8 .typed r _ is .0)) $
         -- the result's machine value is spelled
-        rewrite ! 0 (λ (z : Val). ‵ (Slice κ .own r (z ∷ []))) (spelled κ r u is) refl $ rewrite ! 3 (λ (z : Val). ‵ (fat fullShare slice-local l₂ 0 z)) (spelled κ r u is) refl $
-        assigns ! (agg ! (and-then ! (load ! (from ! (stop !)) (look ! 3 refl)) (no-more !))) (from ! (stop !)) (init ! 7 refl (tt, ((tt, (record { fits = is .0 .1 .0 }, tt)), tt))) $
+        rewrite ! 0 (λ (z : Val). ‵ (Slice κ .own r (z ∷ []))) (spelled κ r u is) refl
+        $ rewrite ! 3 (λ (z : Val). ‵ (fat fullShare slice-local l₂ 0 z)) (spelled κ r u is) refl $
+        assigns ! (agg ! (and-then ! (load ! (from ! (stop !)) (look ! 3 refl)) (no-more !))) (from ! (stop !))
+        (init ! 7 refl (tt, ((tt, (record { fits = is .0 .1 .0 }, tt)), tt))) $
         returns ! (look ! 7 refl) $ forget ! 3 refl $ forget ! 5 refl $ forget ! 7 refl $
         move ! (7 ∷ 8 ∷ []) $ free1 ! $ move ! (5 ∷ 6 ∷ []) $ free1 ! $ move ! (3 ∷ 4 ∷ []) $ free1 ! $ free0 ! $ by ! (exits r e))))))))
 
 module _ {M : Type 1} (𝓤 : URA M) (H : Heap 𝓤) (A : Atoms 𝓤) (W : Given 𝓤 H A) (mem : Memory → SProp 𝓤) (run : Routine → Fun 𝓤) where
   walks : (C : Calls 𝓤 H) (Λ : Loops 𝓤 H) → FmC 𝓤 H (W .laws) C → Triple 𝓤 (C #whole) (Part 𝓤 H A spec.whole)
       → Walks 𝓤 H A new.ended stayed (WpFn 𝓤 H C Λ code.function) (new.clauses 𝓤 H A mem run)
-  walks C Λ fm known = walked 𝓤 H A new.ended stayed (new.clauses 𝓤 H A mem run) (WpFn 𝓤 H C Λ code.function) (λ κs. (slice-vals, tt)) (λ κs. (shr-slice-tells (named 0) (κs .0) u8, tt))
+  walks C Λ fm known =
+      walked 𝓤 H A new.ended stayed (new.clauses 𝓤 H A mem run) (WpFn 𝓤 H C Λ code.function) (λ κs. (slice-vals, tt))
+      (λ κs. (shr-slice-tells (named 0) (κs .0) u8, tt))
       (λ κs qs bounds a g are. via 𝓤 _ (fst∗ 𝓤 _ (emp 𝓤)) (walk 𝓤 H A W mem run (κs .0) (qs .0) (a .0) C Λ fm known (are .0)))
 
 meets : {M : Type 1} (𝓤 : URA M) (H : Heap 𝓤) (A : Atoms 𝓤) (W : Given 𝓤 H A) (mem : Memory → SProp 𝓤) (run : Routine → Fun 𝓤) (𝓣 : Tables 𝓤 H)
     → Triple 𝓤 (𝓣 .C #whole) (Part 𝓤 H A spec.whole)
     → Meets 𝓤 H A new.signature (WpFn 𝓤 H (𝓣 .C) (𝓣 .Λ) code.function) (new.spec 𝓤 H A mem run)
-meets 𝓤 H A W mem run 𝓣 known = walk-meets 𝓤 H A new.ended stayed W (goes-none-slice 𝓤 H A W 1 (0 ∷ []) tt (plain (λ _. u8)) yes, tt) (new.clauses 𝓤 H A mem run) (WpFn 𝓤 H (𝓣 .C) (𝓣 .Λ) code.function) (WpFn-mono 𝓤 H (W .laws) 𝓣 code.function)
+meets 𝓤 H A W mem run 𝓣 known =
+    walk-meets 𝓤 H A new.ended stayed W (goes-none-slice 𝓤 H A W 1 (0 ∷ []) tt (plain (λ _. u8)) yes, tt) (new.clauses 𝓤 H A mem run)
+    (WpFn 𝓤 H (𝓣 .C) (𝓣 .Λ) code.function) (WpFn-mono 𝓤 H (W .laws) 𝓣 code.function)
     (walks 𝓤 H A W mem run (𝓣 .C) (𝓣 .Λ) (fmOf 𝓤 H (W .laws) 𝓣) known)
 
 pub new-spec : {M : Type 1} → stated.statement M
