@@ -38,7 +38,8 @@ pub length-reversedLengths : (m : PathMetaHeader) → length (reversedLengths m)
 unfolding rowOf
 length-reversedLengths m =
     rw (row-is m)
-    (go (segmentLength m 0) (segmentLength m 1) (segmentLength m 2) (eqb (segmentLength m 0) 0) (eqb (segmentLength m 1) 0) (eqb (segmentLength m 2) 0))
+    (go (segmentLength m 0) (segmentLength m 1) (segmentLength m 2) (eqb (segmentLength m 0) 0) (eqb (segmentLength m 1) 0)
+    (eqb (segmentLength m 2) 0))
   where
     go : (a b c : ℕ) (x y z : Bool)
         → length (cond x (0 ∷ 0 ∷ 0 ∷ []) (cond y (a ∷ 0 ∷ 0 ∷ []) (cond z (b ∷ a ∷ 0 ∷ []) (c ∷ b ∷ a ∷ [])))) ≡ 3

@@ -20,17 +20,17 @@ module _ (b : List ℕ) where
   abbrev m : PathMetaHeader
   m = metaHeaderOf b
 
-  pub by-start : accumulatorBy b 0 ≡ infoAt b (segmentOf (metaHeaderOf b) 0) .accumulator
+  pub accumulator-start : accumulatorBy b 0 ≡ infoAt b (segmentOf (metaHeaderOf b) 0) .accumulator
   unfolding accumulatorBy accumulatorAfter
-  by-start =
+  accumulator-start =
       let none : 0 - firstHopField m (segmentOf m 0) ≡ 0 = omega arith in
       ap (accumulatorAfter b (segmentOf m 0)) none
 
   -- one move more inside segment k
-  after-next : (k n : ℕ) → segmentOf m (firstHopField m k + n + 1) ≡ k
+  accumulator-more : (k n : ℕ) → segmentOf m (firstHopField m k + n + 1) ≡ k
       → accumulatorAfter b k (suc n) ≡ bitXor (accumulatorAfter b k n) (changeOf b m k (firstHopField m k + n))
   unfolding accumulatorAfter changeOf takesIn
-  after-next k n inside =
+  accumulator-more k n inside =
       let info = infoAt b k in
       let owner = ownerOf info (firstHopField m k + n) in
       rw (eq-eqb (segmentOf m (firstHopField m k + n + 1)) k inside)
@@ -41,10 +41,10 @@ module _ (b : List ℕ) where
       go false a code = refl
 
   module _ (p : ℕ) where
-    pub by-inside : segmentOf (metaHeaderOf b) (p + 1) ≡ segmentOf (metaHeaderOf b) p
+    pub accumulator-inside : segmentOf (metaHeaderOf b) (p + 1) ≡ segmentOf (metaHeaderOf b) p
         → accumulatorBy b (p + 1) ≡ bitXor (accumulatorBy b p) (changeOf b (metaHeaderOf b) (segmentOf (metaHeaderOf b) p) p)
     unfolding accumulatorBy
-    by-inside same =
+    accumulator-inside same =
         let k : ℕ = segmentOf m p in
         let before : firstHopField m k ≤ p = first-before m p in
         let more : p + 1 - firstHopField m k ≡ suc (p - firstHopField m k) = omega arith in
@@ -52,13 +52,13 @@ module _ (b : List ℕ) where
         let inside : segmentOf m (firstHopField m k + (p - firstHopField m k) + 1) ≡ k = ap (λ (j : ℕ). segmentOf m (j + 1)) at ∙ same in
         ap (λ (n : ℕ). accumulatorAfter b n (p + 1 - firstHopField m n)) same
         ∙ ap (accumulatorAfter b k) more
-        ∙ after-next k (p - firstHopField m k) inside
+        ∙ accumulator-more k (p - firstHopField m k) inside
         ∙ ap (λ (n : ℕ). bitXor (accumulatorAfter b k (p - firstHopField m k)) (changeOf b m k n)) at
 
-    pub by-new : (segmentOf (metaHeaderOf b) (p + 1) ≡ segmentOf (metaHeaderOf b) p → ⊥)
+    pub accumulator-entered : (segmentOf (metaHeaderOf b) (p + 1) ≡ segmentOf (metaHeaderOf b) p → ⊥)
         → accumulatorBy b (p + 1) ≡ infoAt b (segmentOf (metaHeaderOf b) (p + 1)) .accumulator
     unfolding accumulatorBy accumulatorAfter
-    by-new new =
+    accumulator-entered new =
         let k : ℕ = segmentOf m (p + 1) in
         let none : p + 1 - firstHopField m k ≡ 0 = omega (arith, first-entered m p new) in
         ap (accumulatorAfter b k) none

@@ -33,7 +33,16 @@ changedBy change f =
 unfoldable pub changeAt : List ℕ → PathMetaHeader → ℕ → ℕ
 changeAt x m k = cond (eqb k (m .«current_info_field»)) (changeOf x m (m .«current_info_field») (m .«current_hop_field»)) 0
 
--- into another segment it changes none
+-- a move that changes nothing changes no info field
+pub change-none : (x : List ℕ) (m : PathMetaHeader) (k : ℕ) → changeOf x m (m .«current_info_field») (m .«current_hop_field») ≡ 0 → changeAt x m k ≡ 0
+unfolding changeAt
+change-none x m k none = rw none (zero-either (eqb k (m .«current_info_field»)))
+  where
+    zero-either : (t : Bool) → _≡_ {A = ℕ} (cond t 0 0) 0
+    zero-either true = refl
+    zero-either false = refl
+
+-- into another segment nothing changes
 pub change-outside : (x : List ℕ) (m : PathMetaHeader) (k h : ℕ) → eqb (segmentOf m (h + 1)) k ≡ false → changeOf x m k h ≡ 0
 unfolding changeOf takesIn
 change-outside x m k h outside = rw outside

@@ -19,7 +19,6 @@ use Rattle.wire_encoding.proofs.Writes.{placed-is}
 use Rattle.path_fields.specs.Fields.{infoFieldAt}
 use Rattle.path_meta_header.specs.MetaHeader as meta
 use Rattle.path_meta_header.specs.declared.PathMetaHeader.{PathMetaHeader}
-use Rattle.path_meta_header.specs.MetaHeader.{infoStart}
 use Rattle.path.specs.Standard.{infoAt}
 use Rattle.path.specs.Dataplane.{standard}
 use Rattle.path.proofs.Reading.{standard-read}
@@ -29,7 +28,6 @@ use Rattle.path_moves.specs.declared.Position.{Position}
 use Rattle.path_moves.specs.declared.Moved.{Moved}
 use Rattle.path_moves.specs.Moves as spec
 use Rattle.path_moves.specs.Rules as rules
-use Rattle.path_moves.specs.Moves.{CanMove}
 
 -- THE WORD OF A HEADER
 
@@ -81,7 +79,7 @@ module _ (bytes : List ℕ) (m : PathMetaHeader) where
 
   -- where the accumulator stands
   abbrev at : ℕ
-  at = infoStart k + 2
+  at = meta.infoStart k + 2
 
   abbrev code : ℕ
   code = spec.codeOf bytes m (rules.ownerOf (infoAt bytes k) h)
@@ -129,7 +127,7 @@ module _ (bytes : List ℕ) (m : PathMetaHeader) where
   -- all else stays
   pub stays : (j : ℕ) → (j ≡ 0 → ⊥)
       → (spec.takesIn bytes m (m .«current_info_field») (m .«current_hop_field») ≡ true
-      → (j ≡ infoStart (m .«current_info_field») + 2 → ⊥) × (j ≡ infoStart (m .«current_info_field») + 3 → ⊥))
+      → (j ≡ meta.infoStart (m .«current_info_field») + 2 → ⊥) × (j ≡ meta.infoStart (m .«current_info_field») + 3 → ⊥))
       → getD (spec.moveBytes bytes m) j 0 ≡ getD bytes j 0
   unfolding spec.moveBytes
   stays j x y = go (spec.takesIn bytes m k h) refl
@@ -142,12 +140,13 @@ module _ (bytes : List ℕ) (m : PathMetaHeader) where
       go false e = kept
 
   -- a byte that is neither
-  pub stays-beside : (j : ℕ) → (j ≡ 0 → ⊥) → (j ≡ infoStart (m .«current_info_field») + 2 → ⊥) → (j ≡ infoStart (m .«current_info_field») + 3 → ⊥)
+  pub stays-beside : (j : ℕ) → (j ≡ 0 → ⊥) → (j ≡ meta.infoStart (m .«current_info_field») + 2 → ⊥)
+      → (j ≡ meta.infoStart (m .«current_info_field») + 3 → ⊥)
       → getD (spec.moveBytes bytes m) j 0 ≡ getD bytes j 0
   stays-beside j x y z = stays j x (λ e. (y, z))
 
   -- an accumulator that no code is taken in stands XORed with 0
-  pub move-applied : Bytes bytes → infoStart (m .«current_info_field») + 4 ≤ length bytes
+  pub move-applied : Bytes bytes → meta.infoStart (m .«current_info_field») + 4 ≤ length bytes
       → spec.moveBytes bytes m ≡ spec.applied bytes (m .«current_info_field») (spec.moveFrom bytes m (spec.positionOf m))
   unfolding spec.moveBytes spec.changeOf spec.positionOf spec.moveFrom spec.applied
   move-applied b room = go (spec.takesIn bytes m k h)
@@ -172,7 +171,7 @@ module _ (bytes : List ℕ) (m : PathMetaHeader) where
 
   pub flags-kept : (j : ℕ) → infoAt (spec.moveBytes bytes m) j .flags ≡ infoAt bytes j .flags
   unfolding infoFieldAt
-  flags-kept j = stays-beside (infoStart j) (λ e. omega arith) (λ e. omega arith) (λ e. omega arith)
+  flags-kept j = stays-beside (meta.infoStart j) (λ e. omega arith) (λ e. omega arith) (λ e. omega arith)
 
   some-peering-kept : (n : ℕ) → rules.somePeering (spec.moveBytes bytes m) n ≡ rules.somePeering bytes n
   unfolding rules.somePeering
@@ -180,14 +179,14 @@ module _ (bytes : List ℕ) (m : PathMetaHeader) where
   some-peering-kept (suc n) = rw (some-peering-kept n, flags-kept n)
 
 -- the second of the two writes of a move has room
-pub applied-placed : (bytes : List ℕ) (k : ℕ) (move : Moved) → infoStart k + 2 + 2 ≤ length bytes
-    → placed (set bytes 0 (pointers (move .position))) (infoStart k + 2)
-    (bytesOf 2 (bitXor (bigEndian 2 bytes (infoStart k + 2)) (move .change)))
+pub applied-placed : (bytes : List ℕ) (k : ℕ) (move : Moved) → meta.infoStart k + 2 + 2 ≤ length bytes
+    → placed (set bytes 0 (pointers (move .position))) (meta.infoStart k + 2)
+    (bytesOf 2 (bitXor (bigEndian 2 bytes (meta.infoStart k + 2)) (move .change)))
     ≡ spec.applied bytes k move
 unfolding spec.applied
 applied-placed bytes k move room =
-    let number = bitXor (bigEndian 2 bytes (infoStart k + 2)) (move .change) in
-    placed-is (set bytes 0 (pointers (move .position))) (infoStart k + 2) (bytesOf 2 number) 2 (length-bytesOf 2 number) (simp length-set room)
+    let number = bitXor (bigEndian 2 bytes (meta.infoStart k + 2)) (move .change) in
+    placed-is (set bytes 0 (pointers (move .position))) (meta.infoStart k + 2) (bytesOf 2 number) 2 (length-bytesOf 2 number) (simp length-set room)
 
 -- A PATH THAT CAN BE MOVED
 
@@ -202,11 +201,11 @@ pub record Standing (bytes : List ℕ) (m : PathMetaHeader) : Type 0 where
 
 -- a path that can be moved and is not at its last hop field
 pub can-move : (bytes : List ℕ) (m : PathMetaHeader) → rules.movable 1 bytes ≡ ok m → (m .«current_hop_field» + 1 ≡ meta.hopFieldsCount m → ⊥)
-    → CanMove bytes m
+    → spec.CanMove bytes m
 can-move bytes m able other =
     record { able = able; before-last = omega (arith, other, known 1 bytes able .path .sound-meta .hop) }
 
-module _ (bytes : List ℕ) (m : PathMetaHeader) (can : CanMove bytes m) where
+module _ (bytes : List ℕ) (m : PathMetaHeader) (can : spec.CanMove bytes m) where
   abbrev able : Known bytes m
   able = known 1 bytes (can .able)
 

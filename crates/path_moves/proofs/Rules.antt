@@ -2,20 +2,18 @@
 -- the same owner from either end, spared or not.
 -- Assumes nothing.
 use Prim.Native.Nat.{ℕ, zero, suc, _+_, _-_, _≤_, _<_}
-use mathlib.Core.Path.{_≡_, refl, sym, ap, ap₂, _∙_}
+use mathlib.Core.Path.{_≡_, refl, sym, ap₂, _∙_}
 use mathlib.Core.Bool.{Bool, true, false, cond, not, _&&_, _||_, and-eq-true-iff}
 use mathlib.Core.List.{List}
 use native.Mathlib.Omega.{arith}
 use lib.Dec.{leb, eqb}
-use lib.ListN.{length}
 use borrow.Author.Tests.{le-leb, leb-true, eq-eqb, ne-eqb, eqb-true, eqb-false}
 use Rattle.wire_encoding.specs.Result.{ok}
 use Rattle.wire_encoding.proofs.Result.{held, stepped}
 use Rattle.wire_encoding.proofs.Lists.{by-lt}
-use Rattle.path_fields.specs.Fields.{constructedDir, peering, infoFieldIn}
+use Rattle.path_fields.specs.Fields.{constructedDir, peering}
 use Rattle.path_fields.specs.declared.InfoField.{InfoField}
-use Rattle.path_fields.proofs.Fields.{info-in}
-use Rattle.path_meta_header.specs.MetaHeader.{infoFieldsCount, hopFieldsCount, infoStart}
+use Rattle.path_meta_header.specs.MetaHeader.{infoFieldsCount, hopFieldsCount}
 use Rattle.path_meta_header.specs.declared.PathMetaHeader.{PathMetaHeader}
 use Rattle.errors.specs.declared.path_error.Answer.the-variants.{Accepted}
 use Rattle.path.specs.Standard.{infoAt}
@@ -78,16 +76,6 @@ unfolding peeringAllowed peeringPath
 peering-two bytes m allowed k l set =
     let path = rw (some-peering bytes (infoFieldsCount m) k l set) at allowed in
     eqb-true (infoFieldsCount m) 2 (and-eq-true-iff _ _ .0 path .0)
-
--- an info field that was read
-pub info-read : (bytes : List ℕ) (k : ℕ) {info : InfoField} → infoStart k + 8 ≤ length bytes → info ≡ infoFieldIn bytes (infoStart k)
-    → info ≡ infoAt bytes k
-info-read bytes k room is = is ∙ info-in bytes (infoStart k) room
-
--- and what is asked of it
-pub peering-read : (bytes : List ℕ) (k : ℕ) {info : InfoField} {r : Bool} → infoStart k + 8 ≤ length bytes
-    → info ≡ infoFieldIn bytes (infoStart k) → r ≡ peering info → r ≡ peering (infoAt bytes k)
-peering-read bytes k room is r = r ∙ ap peering (info-read bytes k room is)
 
 -- BY THE FLAGS ALONE
 

@@ -13,7 +13,6 @@ use Rattle.path_meta_header.specs.declared.PathMetaHeader.{PathMetaHeader}
 use Rattle.path.specs.Dataplane.{standard}
 use Rattle.path.proofs.Reading.{standard-read}
 use Rattle.path_moves.specs.Moves as spec
-use Rattle.path_moves.specs.Moves.{CanMove, iterate}
 use Rattle.path_moves.specs.Rules.{movable}
 use Rattle.path_moves.proofs.Moves.{length-moveBytes, counts-kept, moved-known, moved-is}
 use Rattle.path_moves.proofs.Rules.{known, known-movable}
@@ -21,7 +20,7 @@ use Rattle.path_moves.proofs.Rules.{known, known-movable}
 -- a walk that began at bytes₀, under m₀, stands at `bytes`, under m and at this hop field, after so many moves
 pub record Walking (bytes₀ : List ℕ) (m₀ : PathMetaHeader) (bytes : List ℕ) (m : PathMetaHeader) (hop moves : ℕ) : Type 0 where
   pub able : movable 1 bytes ≡ ok m
-  pub made : bytes ≡ iterate moves (spec.moved 1) bytes₀
+  pub made : bytes ≡ spec.iterate moves (spec.moved 1) bytes₀
   pub here : hop ≡ m .«current_hop_field»
   pub gone : hop ≡ m₀ .«current_hop_field» + moves
   pub count : hopFieldsCount m ≡ hopFieldsCount m₀
@@ -34,7 +33,7 @@ begin bytes m able e =
     record { able = able; made = refl; here = e; gone = omega arith; count = refl; inside = omega arith; len = refl }
 
 module _ (bytes₀ : List ℕ) (m₀ : PathMetaHeader) (bytes : List ℕ) (m : PathMetaHeader) {hop moves : ℕ} (w : Walking bytes₀ m₀ bytes m hop moves) where
-  pub can : hop + 1 < hopFieldsCount m₀ → CanMove bytes m
+  pub can : hop + 1 < hopFieldsCount m₀ → spec.CanMove bytes m
   can h = record { able = w .able; before-last = omega arith }
 
   pub next : Bytes bytes → hop + 1 < hopFieldsCount m₀ → {bytes′ : List ℕ} {m′ : PathMetaHeader}
@@ -55,12 +54,12 @@ module _ (bytes₀ : List ℕ) (m₀ : PathMetaHeader) (bytes : List ℕ) (m : P
       })
 
   -- what `steps` hands back
-  pub stands : (standard 1 (iterate moves (spec.moved 1) bytes₀) ≡ ok m) × (bytes ≡ iterate moves (spec.moved 1) bytes₀)
+  pub stands : (standard 1 (spec.iterate moves (spec.moved 1) bytes₀) ≡ ok m) × (bytes ≡ spec.iterate moves (spec.moved 1) bytes₀)
   stands = (rw (← w .made) (standard-read bytes m (known 1 bytes (w .able) .path)), w .made)
 
 -- a walk of n moves
 pub way : (bytes : List ℕ) (m : PathMetaHeader) (limit : ℕ) → movable 1 bytes ≡ ok m → {n : ℕ} → n ≡ spec.walkMoves m limit
     → spec.walk 1 bytes limit
-    ≡ ok (record { bytes = iterate n (spec.moved 1) bytes; moves = n; arrived = spec.isLast m (m .«current_hop_field» + n) })
+    ≡ ok (record { bytes = spec.iterate n (spec.moved 1) bytes; moves = n; arrived = spec.isLast m (m .«current_hop_field» + n) })
 unfolding spec.walk
 way bytes m limit able en = rw (able, ← en)

@@ -12,12 +12,22 @@ use wire_encoding::read::wide;
 use wire_encoding::write::put_u16;
 ghost use mathlib.Core.Path.{_≡_};
 ghost use Prim.Native.Nat.{_+_, _≤_, _<_};
+ghost use Rattle.path.specs.Standard.{infoAt};
 ghost use lib.ListN.{length};
 ghost use Rattle.path_meta_header.specs.MetaHeader.{pathLength, infoStart};
 ghost use Rattle.path.specs.Dataplane.{pathAnswer, standard};
 ghost use Rattle.path_moves.specs.Rules as rules;
 ghost use Rattle.wire_encoding.specs.Result.{ok, refused, andThen};
 ghost use Rattle.path_moves.specs.Moves as spec;
+
+// Info field `k`, which is there.
+fn info_field_at(bytes: &[u8], k: usize) -> InfoField
+    requires { ⌜ (infoStart k + 8 ≤ length (now bytes)) × (k < 256) ⌝ }
+    ensures { λ r. ⌜ r ≡ infoAt (now (bytes .entry)) k ⌝ }
+{
+    let at = PathMetaHeader::LENGTH + k * InfoField::LENGTH;
+    InfoField::new(&bytes[at..at + InfoField::LENGTH]).field
+}
 
 // Whether peering is set on one of the first `count` info fields.
 fn some_peering(bytes: &[u8], count: usize) -> bool
@@ -26,8 +36,7 @@ fn some_peering(bytes: &[u8], count: usize) -> bool
 {
     let mut k: usize = 0;
     while k < count {
-        let info_field = InfoField::at(bytes, PathMetaHeader::LENGTH + k * InfoField::LENGTH);
-        if info_field.is_peering() {
+        if info_field_at(bytes, k).is_peering() {
             return true;
         }
         k += 1;
@@ -43,8 +52,8 @@ fn is_peering_path(bytes: &[u8], meta_header: PathMetaHeader) -> bool
     if meta_header.info_fields_count() != 2 {
         return false;
     }
-    let first = InfoField::at(bytes, PathMetaHeader::LENGTH);
-    let second = InfoField::at(bytes, PathMetaHeader::LENGTH + InfoField::LENGTH);
+    let first = info_field_at(bytes, 0);
+    let second = info_field_at(bytes, 1);
     if first.is_peering() {
         return second.is_peering();
     }
@@ -175,7 +184,7 @@ impl Position {
                 change: 0,
             };
         }
-        let info_field = InfoField::at(bytes, PathMetaHeader::LENGTH + segment * InfoField::LENGTH);
+        let info_field = info_field_at(bytes, segment);
         let owner = owner_of(info_field, self.current_hop_field);
         if is_spared(info_field, owner, meta_header.segment_length(0)) {
             return Moved {

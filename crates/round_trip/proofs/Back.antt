@@ -24,7 +24,7 @@ use Rattle.path_moves.specs.Moves.{atPosition, changeOf, codeOf, moveBytes, mov
 use Rattle.path_moves.specs.Rules.{ownerOf, spared}
 use Rattle.path_moves.proofs.Rules.{eqb-iff, owner-below, owner-opposite, spared-opposite, peering-two}
 use Rattle.path_moves.proofs.Moves.{counts-kept}
-use Rattle.path_moves.proofs.Fields.{changedBy, changeAt, change-outside, hop-field-kept, info-field-moved}
+use Rattle.path_moves.proofs.Fields.{changedBy, changeAt, change-none, change-outside, hop-field-kept, info-field-moved}
 use Rattle.round_trip.specs.Mirror.{reversedMetaAt, mirrorMeta, mirror}
 use Rattle.round_trip.proofs.Fields.{Spells, same-path}
 use Rattle.round_trip.proofs.Mirror.{
@@ -49,11 +49,6 @@ undone c f =
     let flipped : InfoField = directionFlipped f in
     ap (λ (a : ℕ). record { flags = flipped .flags; reserved = f .reserved; accumulator = a; timestamp = f .timestamp })
     (xor-twice (f .accumulator) c)
-
--- a flag that decides between 0 and 0
-pub zero-either : (t : Bool) → _≡_ {A = ℕ} (cond t 0 0) 0
-zero-either true = refl
-zero-either false = refl
 
 module _ (x : List ℕ) (m : PathMetaHeader) (path : Path x m) (l : m .«current_hop_field» + 1 < hopFieldsCount m) where
   abbrev I : ℕ
@@ -221,7 +216,7 @@ module _ (x : List ℕ) (m : PathMetaHeader) (path : Path x m) (l : m .«current
           let other : next ≡ now → ⊥ = eqb-false next now e in
           let outside : eqb (segmentOf mz (h′ + 1)) k′ ≡ false =
           ne-eqb (segmentOf mz (h′ + 1)) k′ (λ q. other (omega (arith, back-segment, back-info-pointer, next-below, info-below x m path))) in
-          rw (change-outside z mz k′ h′ outside, change-outside x m now h e) (zero-either (eqb k k′) ∙ sym (zero-either (eqb (I - 1 - k) now)))
+          change-none z mz k (change-outside z mz k′ h′ outside) ∙ sym (change-none x m (I - 1 - k) (change-outside x m now h e))
 
   -- MOVED AGAIN
 

@@ -20,17 +20,14 @@ use Rattle.errors.specs.declared.path_error.Answer.{Answer}
 use Rattle.errors.specs.declared.path_error.Answer.the-variants.{Accepted}
 use Rattle.path.specs.Standard as standard
 use Rattle.path.specs.Dataplane as dataplane
-use Rattle.path.specs.Dataplane.{metaHeaderOf}
 use Rattle.path_reverse.specs.Copy as copy
 use Rattle.path_reverse.specs.Reverse as reverse
 use Rattle.path_moves.specs.Moves as moves
 use Rattle.path_moves.specs.Rules as rules
 use Rattle.round_trip.specs.RoundTrip as round
-use Rattle.round_trip.specs.RoundTrip.{Begun, hopCount}
 use Rattle.round_trip.specs.Examples as examples
-use Rattle.round_trip.specs.Examples.{Computed, PremisesMet, single, double, triple, peered, shortest, longest}
 
-pub computed : Computed
+pub computed : examples.Computed
 unfolding bigEndian bytesOf room withBit fields.infoFieldAt fields.hopFieldAt fields.interfaceOf fields.ingressInterface fields.egressInterface
     meta.nthField meta.metaOf meta.infoFieldsCount meta.hopFieldsCount meta.segmentOf meta.firstHopField meta.pathLength meta.lengthsValid
     meta.hopValid meta.infoValid meta.checked meta.readMeta encoding.wordOf reversal.atStart reversal.reversedLengths reversal.reversedMeta
@@ -68,12 +65,12 @@ asked b =
     record {
       bytes = allBytes b;
       answer = answerOf (dataplane.standard 1 b);
-      exact = eqb (length b) (meta.pathLength (metaHeaderOf b));
-      few = leb (hopCount b) 64;
-      peering = rules.peeringAllowed b (metaHeaderOf b);
-      reserved = metaHeaderOf b .reserved;
-      info-start = metaHeaderOf b .«current_info_field»;
-      hop-start = metaHeaderOf b .«current_hop_field»;
+      exact = eqb (length b) (meta.pathLength (dataplane.metaHeaderOf b));
+      few = leb (round.hopCount b) 64;
+      peering = rules.peeringAllowed b (dataplane.metaHeaderOf b);
+      reserved = dataplane.metaHeaderOf b .reserved;
+      info-start = dataplane.metaHeaderOf b .«current_info_field»;
+      hop-start = dataplane.metaHeaderOf b .«current_hop_field»;
     }
 
 given : Asked
@@ -94,41 +91,42 @@ every-byte (v ∷ l) e (suc i) = every-byte l (go (ltb v 256) e) i
     go true e = e
     go false e = let z : _≡_ {A = ℕ} 0 1 = cc in absurd (omega arith)
 
-begun : (b : List ℕ) → asked b ≡ given → Begun b
+begun : (b : List ℕ) → asked b ≡ given → round.Begun b
 unfolding asked given dataplane.metaHeaderOf
 begun b e =
     record {
       bytes = every-byte b (ap (λ (a : Asked). a .bytes) e);
       read = answer-ok (dataplane.standard 1 b) (meta.metaOf 0) refl refl (ap (λ (a : Asked). a .answer) e);
-      exact = eqb-true (length b) (meta.pathLength (metaHeaderOf b)) (ap (λ (a : Asked). a .exact) e);
-      few = leb-true (hopCount b) 64 (ap (λ (a : Asked). a .few) e);
+      exact = eqb-true (length b) (meta.pathLength (dataplane.metaHeaderOf b)) (ap (λ (a : Asked). a .exact) e);
+      few = leb-true (round.hopCount b) 64 (ap (λ (a : Asked). a .few) e);
       peering = ap (λ (a : Asked). a .peering) e;
       unreserved = ap (λ (a : Asked). a .reserved) e;
       info-start = ap (λ (a : Asked). a .info-start) e;
       hop-start = ap (λ (a : Asked). a .hop-start) e;
     }
 
-all-given : (asked single ≡ given)
-    × (asked double ≡ given)
-    × (asked triple ≡ given)
-    × (asked peered ≡ given)
-    × (asked shortest ≡ given)
-    × (asked longest ≡ given)
+all-given : (asked examples.single ≡ given)
+    × (asked examples.double ≡ given)
+    × (asked examples.triple ≡ given)
+    × (asked examples.peered ≡ given)
+    × (asked examples.shortest ≡ given)
+    × (asked examples.longest ≡ given)
 unfolding bigEndian room fields.infoFieldAt
     meta.nthField meta.metaOf meta.infoFieldsCount meta.hopFieldsCount meta.segmentOf meta.pathLength meta.lengthsValid
     meta.hopValid meta.infoValid meta.checked meta.readMeta
     standard.readPath dataplane.readDataplane dataplane.standard dataplane.metaHeaderOf
     rules.somePeering rules.peeringPath rules.peeringAllowed
-    examples.info examples.hop examples.hops single double triple peered shortest longest asked given allBytes
+    examples.info examples.hop examples.hops
+    examples.single examples.double examples.triple examples.peered examples.shortest examples.longest asked given allBytes
 all-given = (refl, refl, refl, refl, refl, refl)
 
-pub premises-met : PremisesMet
+pub premises-met : examples.PremisesMet
 premises-met =
     let all = all-given in (
-      begun single (all .0),
-      begun double (all .1),
-      begun triple (all .2),
-      begun peered (all .3),
-      begun shortest (all .4),
-      begun longest (all .5),
+      begun examples.single (all .0),
+      begun examples.double (all .1),
+      begun examples.triple (all .2),
+      begun examples.peered (all .3),
+      begun examples.shortest (all .4),
+      begun examples.longest (all .5),
     )

@@ -22,12 +22,11 @@ use Rattle.path_moves.specs.Moves.{accumulatorBy, atPosition, changeOf, iterate
 use Rattle.path_moves.specs.Rules.{ownerOf}
 use Rattle.path_moves.proofs.Rules.{owner-below}
 use Rattle.path_moves.proofs.Moves.{moved-is, flags-kept}
-use Rattle.path_moves.proofs.Fields.{changedBy, changeAt, change-outside, change-same, hop-field-kept, info-field-moved}
-use Rattle.path_moves.proofs.Accumulators.{by-start, by-inside, by-new}
+use Rattle.path_moves.proofs.Fields.{changedBy, changeAt, change-none, change-outside, change-same, hop-field-kept, info-field-moved}
+use Rattle.path_moves.proofs.Accumulators.{accumulator-start, accumulator-inside, accumulator-entered}
 use Rattle.round_trip.specs.RoundTrip.{hopCount}
 use Rattle.round_trip.proofs.Mirror.{Path, hop-named}
 use Rattle.round_trip.proofs.Moved.{can-move, path-moved}
-use Rattle.round_trip.proofs.Back.{zero-either}
 
 -- a header with its pointers at hop field p
 unfoldable pub standingAt : PathMetaHeader → ℕ → PathMetaHeader
@@ -53,7 +52,7 @@ onward-start b path start =
       fields = λ j l. refl;
       flags = λ k l. refl;
       later = λ k n l. refl;
-      meets = sym (by-start b);
+      meets = sym (accumulator-start b);
     }
 
 module _ (b : List ℕ) (valid : lengthsValid (metaHeaderOf b) ≡ true) (p : ℕ) (x : List ℕ) (o : Onward b p x) (l : p + 1 < hopCount b) where
@@ -109,8 +108,8 @@ module _ (b : List ℕ) (valid : lengthsValid (metaHeaderOf b) ≡ true) (p : �
 
   -- into another segment, and of another segment, there is none
   change-new : (next ≡ now → ⊥) → (k : ℕ) → changeAt x mx k ≡ 0
-  unfolding changeAt standingAt atPosition segmentOf
-  change-new new k = rw (change-outside x mx now p (ne-eqb next now new)) (zero-either (eqb k now))
+  unfolding standingAt atPosition segmentOf
+  change-new new k = change-none x mx k (change-outside x mx now p (ne-eqb next now new))
 
   change-other : (k : ℕ) → (k ≡ now → ⊥) → changeAt x mx k ≡ 0
   unfolding changeAt standingAt atPosition
@@ -132,12 +131,12 @@ module _ (b : List ℕ) (valid : lengthsValid (metaHeaderOf b) ≡ true) (p : �
           ap (λ (k : ℕ). infoAt y k .accumulator) same
           ∙ accumulator-next now now-below
           ∙ ap₂ bitXor (o .meets) change-now
-          ∙ sym (by-inside b p same)
+          ∙ sym (accumulator-inside b p same)
       go false e =
           let new : next ≡ now → ⊥ = eqb-false next now e in
           unchanged next next-below (change-new new next)
           ∙ o .later next (omega (arith, segment-up m p, new)) next-below
-          ∙ sym (by-new b p new)
+          ∙ sym (accumulator-entered b p new)
 
   onward-next : Onward b (p + 1) (moveBytes x (standingAt (metaHeaderOf b) p))
   unfolding standingAt atPosition movedMeta moveFrom positionOf segmentOf

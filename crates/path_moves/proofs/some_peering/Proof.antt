@@ -1,12 +1,13 @@
 -- `some_peering` meets its contract: none of the info fields before the k-th has peering, and the first that has it decides.
 use Prim.Native.Nat.{_≤_, _-_}
-use mathlib.Core.Path.{_≡_, refl, sym, _∙_}
+use mathlib.Core.Path.{_≡_, refl, sym, ap, _∙_}
 use mathlib.Core.Bool.{false}
 use native.Mathlib.Omega.{arith}
 use native.Mathlib.Numerals.{add-one}
 use borrow.Author.Needs.{needs}
+use Rattle.path_fields.specs.Fields.{peering}
 use Rattle.path_moves.specs.Rules.{somePeering}
-use Rattle.path_moves.proofs.Rules.{some-peering, peering-read}
+use Rattle.path_moves.proofs.Rules.{some-peering}
 use Rattle.path_moves.proofs.some_peering.Statement.{statement}
 use Rattle.path_moves.proofs.some_peering.Tie as tie
 
@@ -20,14 +21,8 @@ loop-holds : tie.Need-loop-holds Inv-loop μ-loop
 unfolding somePeering
 loop-holds c = (omega arith, refl)
 
-mul-at : tie.Need-mul-at Inv-loop μ-loop
-mul-at c = search needs
-
-add-at : tie.Need-add-at Inv-loop μ-loop
-add-at c = search needs
-
-at-requires : tie.Need-at-requires Inv-loop μ-loop
-at-requires c κs = search needs
+info-field-at-requires : tie.Need-info-field-at-requires Inv-loop μ-loop
+info-field-at-requires c κs = search needs
 
 is-peering-requires : tie.Need-is-peering-requires Inv-loop μ-loop
 is-peering-requires c κs = search needs
@@ -38,7 +33,7 @@ returns c =
     let at-loop = read .before .before in
     let a = at-loop .before .before .args in
     let k = at-loop .loop .k in
-    let here = peering-read (a .bytes .now) k (omega arith) (read .at .ensures) (c .before .is-peering .ensures) in
+    let here = c .before .is-peering .ensures ∙ ap peering (read .info-field-at .ensures) in
     sym (some-peering (a .bytes .now) (a .count) k (omega arith) (sym here ∙ c .if1 .taken))
 
 add-k : tie.Need-add-k Inv-loop μ-loop
@@ -54,7 +49,7 @@ loop-again c =
     let at-loop = read .before .before in
     let a = at-loop .before .before .args in
     let k = at-loop .loop .k in
-    let here = peering-read (a .bytes .now) k (omega arith) (read .at .ensures) (c .before .is-peering .ensures) in
+    let here = c .before .is-peering .ensures ∙ ap peering (read .info-field-at .ensures) in
     (omega arith, rw (add-one k, at-loop .loop .inv .1, ← here) (c .if1 .left))
 
 returns-2 : tie.Need-returns-2 Inv-loop μ-loop
@@ -70,9 +65,7 @@ some-peering-spec =
     Inv-loop
     μ-loop
     loop-holds
-    mul-at
-    add-at
-    at-requires
+    info-field-at-requires
     is-peering-requires
     returns
     add-k

@@ -14,7 +14,8 @@ info c = sym (c .before .fits-2 .ensures) ∙ not-false _ (c .if1 .left)
 hop : (c : tie.Else2) → encoding.fits 6 (c .before .before .before .before .before .args .self .«current_hop_field») ≡ true
 hop c = sym (c .before .fits-6 .ensures) ∙ not-false _ (c .if2 .left)
 
-reserved : (c : tie.Else3) → let first = c .before .before .before .before in encoding.fits 6 (first .before .before .before .args .self .reserved) ≡ true
+reserved : (c : tie.Else3) → let first = c .before .before .before .before in encoding.fits 6 (first .before .before .before .args .self .reserved)
+    ≡ true
 reserved c = sym (c .before .fits-62 .ensures) ∙ not-false _ (c .if3 .left)
 
 fits-2-requires : tie.Need-fits-2-requires

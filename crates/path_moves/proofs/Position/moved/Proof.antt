@@ -10,7 +10,6 @@ use Rattle.path.specs.Standard.{infoAt}
 use Rattle.path_moves.specs.Moves.{changeOf, moveFrom, takesIn}
 use Rattle.path_moves.specs.Rules.{ownerOf}
 use Rattle.path_moves.proofs.Moves.{standing-at}
-use Rattle.path_moves.proofs.Rules.{info-read}
 use Rattle.path_moves.proofs.Position.moved.Statement.{statement}
 use Rattle.path_moves.proofs.Position.moved.Tie as tie
 
@@ -44,14 +43,12 @@ returns c =
     let hop = c .before .before in
     rw (← hop .wide2 .ensures .0, ← c .before .segment-of .ensures .0, ← hop .before .wide .ensures .0, ne-eqb _ _ (c .if1 .taken))
 
-mul-at : tie.Need-mul-at
-mul-at c = search needs
-
-add-at : tie.Need-add-at
-add-at c = search needs
-
-at-requires : tie.Need-at-requires
-at-requires c κs = search needs
+info-field-at-requires : tie.Need-info-field-at-requires
+info-field-at-requires c κs =
+    let segment = c .before .before .before in
+    let start = segment .before .before in
+    let known = standing-at _ _ (start .pre .0) (start .pre .1) in
+    (omega (arith, segment .wide .ensures .0), segment .wide .ensures .1)
 
 owner-of-requires : tie.Need-owner-of-requires
 owner-of-requires c κs = search needs
@@ -63,15 +60,13 @@ is-spared-requires : tie.Need-is-spared-requires
 is-spared-requires c κs = search needs
 
 -- the info field that was read, and the owner, are the definition's
-info-is : (c : tie.After-at)
+info-is : (c : tie.After-info-field-at)
     → let segment = c .before .before .before .before in
     let a = segment .before .before .args in
-    c .at .result ≡ infoAt (a .bytes .now) (a .self .«current_info_field»)
+    c .info-field-at .result ≡ infoAt (a .bytes .now) (a .self .«current_info_field»)
 info-is c =
     let segment = c .before .before .before .before in
-    let start = segment .before .before in
-    let known = standing-at _ _ (start .pre .0) (start .pre .1) in
-    rw (← segment .wide .ensures .0) (info-read (start .args .bytes .now) (segment .wide .result) (omega arith) (c .at .ensures))
+    rw (← segment .wide .ensures .0) (c .info-field-at .ensures)
 
 owner-is : (c : tie.After-owner-of)
     → let segment = c .before .before .before .before .before in
@@ -148,9 +143,7 @@ moved-spec =
     add-t11
     cast-t13
     returns
-    mul-at
-    add-at
-    at-requires
+    info-field-at-requires
     owner-of-requires
     segment-length-requires
     is-spared-requires

@@ -18,7 +18,9 @@ same-length c = search needs
 returns : tie.Need-returns
 returns c =
     let call = c .before .before .before in
-    rw (← call .before .before .new .ensures, ← call .set-cons-ingress-router-alert .ensures .0) (c .path-answer-out .ensures, call .set-cons-ingress-router-alert .ensures .1)
+    rw (← call .before .before .new .ensures, ← call .set-cons-ingress-router-alert .ensures .0)
+    (c .path-answer-out .ensures, call .set-cons-ingress-router-alert .ensures .1)
 
 pub scion-set-ingress-router-alert-spec : {M : Type 1} → statement M
-scion-set-ingress-router-alert-spec = tie.close (tie.spec new-requires set-cons-ingress-router-alert-requires path-answer-out-requires same-length returns)
+scion-set-ingress-router-alert-spec =
+    tie.close (tie.spec new-requires set-cons-ingress-router-alert-requires path-answer-out-requires same-length returns)

@@ -14,7 +14,8 @@ has-room-requires c κs = search needs
 write-bytes-requires : tie.Need-write-bytes-requires
 write-bytes-requires c κs =
     let a = c .before .before .before .before .before .args in
-    let room : a .at + length (a .src .now) ≤ length (a .dst .now) = leb-true _ _ (sym (c .before .before .has-room .ensures) ∙ c .before .if1 .taken) in
+    let room : a .at + length (a .src .now) ≤ length (a .dst .now) =
+    leb-true _ _ (sym (c .before .before .has-room .ensures) ∙ c .before .if1 .taken) in
     search needs
 
 same-length : tie.Need-same-length
