@@ -60,16 +60,6 @@ module _ {A : Type 0} where
   answer-refused (ok a) is h = let z : _≡_ {A = ℕ} 0 1 = cc in absurd (omega arith)
   answer-refused (refused error) is h = cc
 
-  -- of a writing: there is a value
-  pub record Valued (r : Result EncodeError A) : Type 0 where
-    pub value : A
-    pub is : r ≡ ok value
-
-  pub encoded-ok : (r : Result EncodeError A) → encodedOf r ≡ encoded.Done → Valued r
-  unfolding encodedOf
-  encoded-ok (ok a) h = record { value = a; is = refl }
-  encoded-ok (refused error) h = let z : _≡_ {A = ℕ} 0 1 = cc in absurd (omega arith)
-
   -- the two ends of a call that writes: what it answers, with what the lent bytes then hold
   pub written : (r : Result EncodeError A) (old : A) {new after : A} → r ≡ ok new → after ≡ new → (encoded.Done ≡ encodedOf r)
       × (after ≡ orElse r old)

@@ -38,14 +38,6 @@ pub struct CommonHeaderRead {
 pub struct AddressInfo(pub u8);
 
 impl AddressInfo {
-    pub const MAX_ADDRESS_BYTES: usize = 16;
-
-    pub const IPV4: AddressInfo = AddressInfo(0);
-
-    pub const IPV6: AddressInfo = AddressInfo(3);
-
-    pub const SERVICE: AddressInfo = AddressInfo(4);
-
     // How many bytes a host of this kind has.
     pub fn address_length(self) -> usize
         ensures { λ r. ⌜ (r ≡ spec.hostLength (self .0)) × (r ≤ 16) ⌝ }

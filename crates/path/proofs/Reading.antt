@@ -8,7 +8,7 @@ use native.Mathlib.Omega.{arith}
 use lib.Dec.{leb, ltb, eqb}
 use lib.ListN.{length, getD, set}
 use borrow.Author.Tests.{leb-true, ltb-true, eqb-true, le-leb}
-use Rattle.wire_encoding.specs.Result.{Result, ok, refused, orElse, refusing}
+use Rattle.wire_encoding.specs.Result.{Result, ok, refused, refusing}
 use Rattle.wire_encoding.specs.BigEndian.{bigEndian, room}
 use Rattle.wire_encoding.specs.Bits.{withBit}
 use Rattle.wire_encoding.proofs.Result.{same-value, held, stepped, refusing-ok, either, refused-alike}
@@ -36,22 +36,7 @@ use Rattle.path.specs.declared.dataplane.DataplaneRead.{DataplaneRead}
 use Rattle.path.specs.declared.dataplane.Located.{Located}
 use Rattle.path.specs.Standard.{readPath, pathUnder, pathRead}
 use Rattle.path.specs.Segment.{Fields, nowhere}
-use Rattle.path.specs.Dataplane.{
-  Extent,
-  headless,
-  readStandard,
-  readDataplane,
-  dataplaneRead,
-  standard,
-  metaHeaderOf,
-  pathAnswer,
-  infoFieldIn,
-  hopFieldIn,
-  segmentIn,
-  located,
-  segment,
-  alerted,
-}
+use Rattle.path.specs.Dataplane.{Extent, headless, readStandard, readDataplane, dataplaneRead, standard, metaHeaderOf, pathAnswer, infoFieldIn, hopFieldIn, segmentIn, located, alerted, Among, ViewsInside}
 use Rattle.path.proofs.Segment as segments
 
 -- WHAT AN ANSWER SAYS
@@ -179,10 +164,6 @@ pub record Inside (size n : ℕ) (v : Part) : Type 0 where
   pub inside : v .start + v .len ≤ n
   pub sized : v .len ≡ size
 
--- a part that is handed back lies among them too, for it is empty where it is refused
-abbrev Among : List ℕ → Part → Type 0
-Among bytes p = p .start + p .len ≤ length bytes
-
 module _ (bytes : List ℕ) (type : ℕ) where
   info-view : (k : ℕ) (v : Part) → infoFieldIn type bytes k ≡ ok v → Inside 8 (length bytes) v
   unfolding infoFieldIn infoFieldOffset pathLength
@@ -237,23 +218,15 @@ module _ (bytes : List ℕ) (type : ℕ) where
       refused-alike (λ m. hopFieldOffset m j) (λ m start. record { start = start; len = 12 })
       (λ m flags. record { header = m; bytes = set bytes flags (withBit bit on (getD bytes flags 0)) }) (standard type bytes) h
 
-  segment-view : (k : ℕ) (v : Fields) → segmentIn type bytes k ≡ ok v → Among bytes (v .hops)
+  segment-view : (k : ℕ) (v : Fields) → segmentIn type bytes k ≡ ok v → Among bytes (v .info) × Among bytes (v .hops)
   unfolding segmentIn
   segment-view k v h =
       let read = stepped (standard type bytes) _ h in
       let m = read .value in
       let there = held (ltb k (infoFieldsCount m)) _ _ (read .then) in
-      rw (← ap (λ (r : Result PathError Fields). orElse r v .hops) (there .1))
-      (segments.inside bytes m k (ltb-true _ _ (there .0)) (standard-readable bytes type (read .first) .whole) .hops)
+      let lies = segments.inside bytes m k (ltb-true _ _ (there .0)) (standard-readable bytes type (read .first) .whole) in
+      rw (← same-value (there .1)) (lies .info, lies .hops)
 
-  pub info-inside : (k : ℕ) → Among bytes (located (standard type bytes) (infoFieldIn type bytes k) .part)
-  unfolding located
-  info-inside k = either (Among bytes) (infoFieldIn type bytes k) _ (omega arith) (λ v h. info-view k v h .inside)
-
-  pub hop-inside : (j : ℕ) → Among bytes (located (standard type bytes) (hopFieldIn type bytes j) .part)
-  unfolding located
-  hop-inside j = either (Among bytes) (hopFieldIn type bytes j) _ (omega arith) (λ v h. hop-view j v h .inside)
-
-  pub segment-inside : (k : ℕ) → Among bytes (segment (standard type bytes) (segmentIn type bytes k) .«hop_fields»)
-  unfolding segment
-  segment-inside k = either (λ v. Among bytes (v .hops)) (segmentIn type bytes k) _ (omega arith) (segment-view k)
+pub views-inside : ViewsInside
+views-inside type bytes i =
+    ((λ p h. info-view bytes type i p h .inside), (λ p h. hop-view bytes type i p h .inside), (λ s h. segment-view bytes type i s h))

@@ -1,5 +1,6 @@
 -- The calls on a path of any type: a type byte beside the bytes. Reading comes first, then each call's own order.
-use Prim.Native.Nat.{ℕ}
+use Prim.Native.Nat.{ℕ, _+_, _≤_}
+use mathlib.Core.Path.{_≡_}
 use mathlib.Core.Bool.{Bool, cond}
 use mathlib.Core.List.{List}
 use lib.ListN.{length, getD, set}
@@ -111,6 +112,17 @@ segment path r =
 -- the bytes of a part
 abbrev pub partIn : List ℕ → Part → List ℕ
 partIn bytes p = part (p .start) (p .len) bytes
+
+-- a theorem: what a view names lies among the caller's bytes
+abbrev pub Among : List ℕ → Part → Type 0
+Among bytes p = p .start + p .len ≤ length bytes
+
+abbrev pub ViewsInside : Type 0
+ViewsInside =
+    (type : ℕ) (bytes : List ℕ) (i : ℕ)
+    → ((p : Part) → infoFieldIn type bytes i ≡ ok p → Among bytes p)
+    × ((p : Part) → hopFieldIn type bytes i ≡ ok p → Among bytes p)
+    × ((s : Fields) → segmentIn type bytes i ≡ ok s → Among bytes (s .info) × Among bytes (s .hops))
 
 -- ALERT FLAGS of hop field j: bit 1 ingress, bit 0 egress. The one bit changes; 8 where there is no such hop field
 

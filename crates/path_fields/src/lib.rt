@@ -213,9 +213,9 @@ impl HopField {
         ensures { λ r. ⌜ r ≡ spec.ingressInterface «info_field» self ⌝ }
     {
         if info_field.is_constructed_dir() {
-            return self.cons_ingress_interface();
+            return Interface::new(self.cons_ingress);
         }
-        self.cons_egress_interface()
+        Interface::new(self.cons_egress)
     }
 
     // The interface by which a packet leaves, in the direction of its segment.
@@ -223,9 +223,9 @@ impl HopField {
         ensures { λ r. ⌜ r ≡ spec.egressInterface «info_field» self ⌝ }
     {
         if info_field.is_constructed_dir() {
-            return self.cons_egress_interface();
+            return Interface::new(self.cons_egress);
         }
-        self.cons_ingress_interface()
+        Interface::new(self.cons_ingress)
     }
 
     // How long the field is valid, in ms: 337,500 for each unit of its expiry byte and one more.

@@ -4,6 +4,7 @@ use mathlib.Core.Path.{_≡_}
 use mathlib.Core.List.{List, [], _∷_, _++_}
 use lib.ListN.{length}
 use Rattle.wire_encoding.specs.BigEndian.{part}
+use Rattle.path_fields.specs.Fields.{hopFieldLength}
 use Rattle.path_hop_fields.specs.Run.{count, first, afterFirst, last, beforeLast, hopField, hopFields}
 
 -- where a read is made: `next` at the front, `next_back` at the back
@@ -52,7 +53,7 @@ fromBack (back ∷ reads) run = fromBack reads (beforeLast run) ++ (last run ∷
 
 pub record Read (run : List ℕ) (reads : List ReadEnd) : Type 0 where
   -- what is left lies between the hop fields read at the front and those read at the back
-  pub between : leftBy reads run ≡ part (madeAt front reads * 12) ((count run - length reads) * 12) run
+  pub between : leftBy reads run ≡ part (madeAt front reads * hopFieldLength) ((count run - length reads) * hopFieldLength) run
   -- "tells how many remain"
   pub remain : count (leftBy reads run) ≡ count run - length reads
   -- each hop field is given once or left: those of the front in order, those of the back in reverse
@@ -64,4 +65,4 @@ pub record Read (run : List ℕ) (reads : List ReadEnd) : Type 0 where
   pub nothing : length reads ≡ count run → (more : List ReadEnd) → (end : ReadEnd) → given end (leftBy more (leftBy reads run)) ≡ []
 
 unfoldable pub FromEitherEnd : Type 0
-FromEitherEnd = (run : List ℕ) → length run % 12 ≡ 0 → (reads : List ReadEnd) → length reads ≤ count run → Read run reads
+FromEitherEnd = (run : List ℕ) → length run % hopFieldLength ≡ 0 → (reads : List ReadEnd) → length reads ≤ count run → Read run reads

@@ -14,7 +14,7 @@ use Rattle.path_hop_fields.specs.declared.view.Ends.{Ends}
 -- bytes that are a run: 9 where their number is no multiple of 12
 unfoldable pub runOf : List ℕ → Result PathError (List ℕ)
 runOf bytes = do
-  require (eqb (length bytes % 12) 0) InadequateBufferSize
+  require (eqb (length bytes % hopFieldLength) 0) InadequateBufferSize
   ok bytes
 
 -- nothing where they are refused
@@ -23,21 +23,21 @@ whole bytes = orElse (runOf bytes) []
 
 -- how many hop fields a run has
 abbrev pub count : List ℕ → ℕ
-count run = length run / 12
+count run = length run / hopFieldLength
 
 -- a read at the front: the hop field, nothing where none is left; and what is left
 unfoldable pub first : List ℕ → List ℕ
-first run = cond (ltb (length run) 12) [] (take 12 run)
+first run = cond (ltb (length run) hopFieldLength) [] (take hopFieldLength run)
 
 abbrev pub afterFirst : List ℕ → List ℕ
-afterFirst run = drop 12 run
+afterFirst run = drop hopFieldLength run
 
 -- a read at the back
 unfoldable pub last : List ℕ → List ℕ
-last run = cond (ltb (length run) 12) [] (drop (length run - 12) run)
+last run = cond (ltb (length run) hopFieldLength) [] (drop (length run - hopFieldLength) run)
 
 abbrev pub beforeLast : List ℕ → List ℕ
-beforeLast run = take (length run - 12) run
+beforeLast run = take (length run - hopFieldLength) run
 
 -- hop field j of a run
 abbrev pub hopField : List ℕ → ℕ → List ℕ

@@ -12,7 +12,7 @@ use Rattle.errors.specs.declared.packet_error.EncodeError.the-variants.{NumberT
 use Rattle.path_meta_header.specs.declared.PathMetaHeader.{PathMetaHeader}
 use Rattle.path_meta_header.specs.declared.Word.{Word}
 use Rattle.path_meta_header.specs.declared.Word.the-variants as word
-use Rattle.path_meta_header.specs.MetaHeader.{segmentLength, metaOf, checked, readMeta}
+use Rattle.path_meta_header.specs.MetaHeader.{metaHeaderLength, segmentLength, metaOf, checked, readMeta}
 
 -- whether a number has at most `bits` bits
 abbrev pub fits : ℕ → ℕ → Bool
@@ -40,12 +40,12 @@ abbrev pub answerWord : Word → Result ℕ ℕ
 answerWord (word.Value n) = ok n
 answerWord word.TooWide = refused 10
 
--- what a destination of n bytes then holds: a number too wide, another size
+-- what a destination of n bytes then holds; 01's order: a number too wide, another size
 unfoldable pub writeMeta : PathMetaHeader → ℕ → Result EncodeError (List ℕ)
 writeMeta m n = do
   require (metaFits m) NumberTooWide
-  require (eqb n 4) InadequateBufferSize
-  ok (bytesOf 4 (wordOf m))
+  require (eqb n metaHeaderLength) InadequateBufferSize
+  ok (bytesOf metaHeaderLength (wordOf m))
 
 -- THEOREMS
 

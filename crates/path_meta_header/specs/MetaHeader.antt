@@ -138,7 +138,7 @@ checked m = do
 unfoldable pub readMeta : List ℕ → Result DecodeError PathMetaHeader
 readMeta bytes = do
   require (room bytes 0 metaHeaderLength) PacketEmptyOrTruncated
-  checked (metaOf (bigEndian 4 bytes 0))
+  checked (metaOf (bigEndian metaHeaderLength bytes 0))
 
 -- what a reader hands back: a header of zeros where it is refused
 unfoldable pub metaRead : Result DecodeError PathMetaHeader → MetaRead

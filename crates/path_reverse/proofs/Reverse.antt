@@ -5,7 +5,7 @@ use mathlib.Core.Path.{_≡_, refl, sym, ap, ap₂, _∙_, subst}
 use mathlib.Core.Bool.{Bool, true, false, cond}
 use mathlib.Core.List.{List, [], _∷_, _++_, flatMap, reverse as reversed, reverse-append}
 use Prim.Native.Nat.{ℕ, zero, suc, _+_, _-_, _*_, _≤_, _<_}
-use native.Mathlib.Nat.{suc-mul, zero-mul, add-comm, mod-eq-of-lt}
+use native.Mathlib.Nat.{suc-mul, zero-mul, add-comm}
 use native.Mathlib.Numerals.{sub-one}
 use native.Mathlib.Omega.{arith}
 use lib.Dec.{eqb}
@@ -16,7 +16,7 @@ use borrow.Author.Tests.{lt-ltb, ne-eqb}
 use Rattle.wire_encoding.specs.BigEndian.{bigEndian, bytesOf, part, placed, records}
 use Rattle.wire_encoding.proofs.Bits.{flip-bit, flip-above}
 use Rattle.wire_encoding.proofs.Lists.{Bytes, length-part, part-join, part-right, written-after, sets-whole, bytes-append, bytes-part}
-use Rattle.wire_encoding.proofs.BigEndian.{length-bytesOf, read-bytesOf}
+use Rattle.wire_encoding.proofs.BigEndian.{length-bytesOf}
 use Rattle.wire_encoding.proofs.Writes.{lent-run, placed-is}
 use Rattle.path_fields.specs.Fields.{infoFieldAt, withConstructedDir}
 use Rattle.path_fields.proofs.Fields.{directionFlipped}
@@ -25,7 +25,6 @@ use Rattle.path_meta_header.specs.Reversal.{atStart, reversedLengths, reversedM
 use Rattle.path_meta_header.proofs.Reversal.{rowOf, row-is}
 use Rattle.path_meta_header.specs.Encoding.{metaFits, wordOf}
 use Rattle.path_meta_header.specs.declared.PathMetaHeader.{PathMetaHeader}
-use Rattle.path_meta_header.proofs.Encoding.{fitting, word-below, meta-back}
 use Rattle.errors.specs.declared.packet_error.DecodeError.{DecodeError}
 use Rattle.errors.specs.declared.path_error.PathError.the-variants.{Decode, InadequateBufferSize}
 use Rattle.wire_encoding.specs.Result.{Result, ok, refused, andThen, refusing}
@@ -237,20 +236,6 @@ reversible {bytes} r e = record {
   whole = r .whole;
   exact = e;
 }
-
--- the first four bytes of what is written spell the reversed header
-module _ (m : PathMetaHeader) (bytes : List ℕ) (fits : metaFits (reversedMeta m) ≡ true) where
-  pub word-reversedPath : bigEndian 4 (reversedPath m bytes) 0 ≡ wordOf (reversedMeta m)
-  unfolding reversedPath
-  word-reversedPath =
-      read-bytesOf 4 (wordOf (reversedMeta m)) [] (infos m bytes ++ hops m bytes)
-      ∙ mod-eq-of-lt (word-below (reversedMeta m) (fitting (reversedMeta m) fits))
-
-  pub meta-reversedPath : metaOf (bigEndian 4 (reversedPath m bytes) 0) ≡ reversedMeta m
-  unfolding reversedMeta atStart
-  meta-reversedPath =
-      let three = ap length (row-is m) ∙ by-row (λ lengths. length lengths ≡ 3) _ _ _ refl refl refl refl in
-      ap metaOf word-reversedPath ∙ meta-back (reversedMeta m) three (fitting (reversedMeta m) fits)
 
 -- WHAT A REVERSED PATH HOLDS
 

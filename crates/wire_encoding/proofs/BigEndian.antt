@@ -15,7 +15,7 @@ use borrow.Author.Tests.{le-leb, lt-leb, leb-true, leb-false}
 use Rattle.wire_encoding.specs.Result.{Result, ok, refused, orElse}
 use Rattle.wire_encoding.specs.BigEndian.{bigEndian, bytesOf, room, numberAt, part, NumbersReadBack, BytesReadBack, NumbersBelow}
 use Rattle.wire_encoding.proofs.Result.{held, unmet}
-use Rattle.wire_encoding.proofs.Lists.{Bytes, bytes-append, part-last, sets-same}
+use Rattle.wire_encoding.proofs.Lists.{Bytes, bytes-append, part-last}
 
 module _ (bytes : List ℕ) (b : Bytes bytes) (at : ℕ) where
   -- a number of `width` bytes is below 256 ^ width
@@ -114,10 +114,6 @@ bytes-read (suc width) bytes b at h =
     ap₂ (λ (q r : ℕ). bytesOf width q ++ (r ∷ [])) (digits-div (bigEndian width bytes at) small) (digits-mod (bigEndian width bytes at) small)
     ∙ ap (λ (r : List ℕ). r ++ (last ∷ [])) (bytes-read width bytes b at (omega arith))
     ∙ sym (part-last at width bytes (omega arith))
-
--- bytes that were read and written again are the same bytes
-pub written-again : (width at : ℕ) (l : List ℕ) → Bytes l → at + width ≤ length l → sets l at (bytesOf width (bigEndian width l at)) ≡ l
-written-again width at l b h = ap (sets l at) (bytes-read width l b at h) ∙ sets-same at width l h
 
 -- a number inside a part is the number of the whole
 pub read-part : (width : ℕ) (bytes : List ℕ) (p n at : ℕ) → at + width ≤ n → bigEndian width (part p n bytes) at ≡ bigEndian width bytes (p + at)

@@ -7,26 +7,26 @@ use Rattle.path_fields.proofs.HopField.ingress_interface.Tie as tie
 is-constructed-dir-requires : tie.Need-is-constructed-dir-requires
 is-constructed-dir-requires c κs = search needs
 
-cons-ingress-interface-requires : tie.Need-cons-ingress-interface-requires
-cons-ingress-interface-requires c κs = search needs
+new-requires : tie.Need-new-requires
+new-requires c κs = search needs
 
 returns : tie.Need-returns
 unfolding ingressInterface
-returns c = rw (← c .before .before .is-constructed-dir .ensures, c .before .if1 .taken) (c .cons-ingress-interface .ensures)
+returns c = rw (← c .before .before .is-constructed-dir .ensures, c .before .if1 .taken) (c .new .ensures)
 
-cons-egress-interface-requires : tie.Need-cons-egress-interface-requires
-cons-egress-interface-requires c κs = search needs
+new-requires-2 : tie.Need-new-requires-2
+new-requires-2 c κs = search needs
 
 returns-2 : tie.Need-returns-2
 unfolding ingressInterface
-returns-2 c = rw (← c .before .before .is-constructed-dir .ensures, c .before .if1 .left) (c .cons-egress-interface .ensures)
+returns-2 c = rw (← c .before .before .is-constructed-dir .ensures, c .before .if1 .left) (c .new2 .ensures)
 
 pub ingress-interface-spec : {M : Type 1} → statement M
 ingress-interface-spec =
     tie.close
     (tie.spec
     is-constructed-dir-requires
-    cons-ingress-interface-requires
+    new-requires
     returns
-    cons-egress-interface-requires
+    new-requires-2
     returns-2)
