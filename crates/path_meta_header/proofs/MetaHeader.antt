@@ -14,6 +14,8 @@ use Rattle.wire_encoding.proofs.Result.{held}
 use Rattle.path_meta_header.specs.declared.PathMetaHeader.{PathMetaHeader}
 use Rattle.wire_encoding.specs.Result.{Result, ok, refused}
 use Rattle.errors.specs.declared.packet_error.DecodeError.{DecodeError}
+use Rattle.errors.specs.declared.packet_error.DecodeError.the-variants.{InvalidPath}
+use Rattle.errors.specs.declared.path_error.DataplanePathErrorKind.the-variants.{InvalidSegmentLengths}
 use Rattle.errors.specs.declared.packet_error.Decoded.the-variants.{Accepted, Refused}
 use Rattle.errors.proofs.Errors as told
 use Rattle.path_meta_header.specs.declared.MetaRead.{MetaRead}
@@ -277,6 +279,11 @@ pub record Lengths (m : PathMetaHeader) : Type 0 where
 pub lengths-read : (word : ℕ) → Lengths (metaOf word)
 unfolding metaOf nthField
 lengths-read word = record { first = omega arith; second = omega arith; third = omega arith; these = refl }
+
+-- wrong lengths are refused first, whatever else is wrong
+pub wrong-lengths : (m : PathMetaHeader) → lengthsValid m ≡ false → checked m ≡ refused (InvalidPath InvalidSegmentLengths)
+unfolding checked
+wrong-lengths m e = rw e
 
 -- A SOUND HEADER
 

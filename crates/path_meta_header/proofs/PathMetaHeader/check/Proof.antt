@@ -3,6 +3,7 @@ use mathlib.Core.Path.{_≡_, sym, _∙_}
 use mathlib.Core.Bool.{true}
 use borrow.Author.Tests.{not-true, not-false}
 use Rattle.path_meta_header.specs.MetaHeader.{lengthsValid, infoValid, checked, metaRead}
+use Rattle.path_meta_header.proofs.MetaHeader.{wrong-lengths}
 use borrow.Author.Needs.{needs}
 use Rattle.path_meta_header.proofs.PathMetaHeader.check.Statement.{statement}
 use Rattle.path_meta_header.proofs.PathMetaHeader.check.Tie as tie
@@ -21,10 +22,9 @@ invalid-requires : tie.Need-invalid-requires
 invalid-requires c κs = search needs
 
 returns : tie.Need-returns
-unfolding checked
 returns c =
     let test = c .before in
-    rw (sym (test .before .lengths-valid .ensures) ∙ not-true _ (test .if1 .taken)) (c .invalid .ensures)
+    rw (wrong-lengths _ (sym (test .before .lengths-valid .ensures) ∙ not-true _ (test .if1 .taken))) (c .invalid .ensures)
 
 info-valid-requires : tie.Need-info-valid-requires
 info-valid-requires c κs = search needs
