@@ -36,7 +36,23 @@ use Rattle.path.specs.declared.dataplane.DataplaneRead.{DataplaneRead}
 use Rattle.path.specs.declared.dataplane.Located.{Located}
 use Rattle.path.specs.Standard.{readPath, pathUnder, pathRead}
 use Rattle.path.specs.Segment.{Fields, nowhere}
-use Rattle.path.specs.Dataplane.{Extent, headless, readStandard, readDataplane, dataplaneRead, standard, metaHeaderOf, pathAnswer, infoFieldIn, hopFieldIn, segmentIn, located, alerted, Among, ViewsInside}
+use Rattle.path.specs.Dataplane.{
+  Extent,
+  headless,
+  readStandard,
+  readDataplane,
+  dataplaneRead,
+  standard,
+  metaHeaderOf,
+  pathAnswer,
+  infoFieldIn,
+  hopFieldIn,
+  segmentIn,
+  located,
+  alerted,
+  Among,
+  ViewsInside,
+}
 use Rattle.path.proofs.Segment as segments
 
 -- WHAT AN ANSWER SAYS
