@@ -11,10 +11,10 @@ use Rattle.errors.specs.declared.path_error.PathError.the-variants.{InadequateB
 use Rattle.path_reverse.specs.Copy.{into}
 
 module _ (type : ℕ) (some : type ≡ 0 → ⊥) (header : PathMetaHeader) (run dst : List ℕ) where
-  pub into-exact : length dst ≡ length run → into type header run dst ≡ ok (record { header = header; bytes = run })
-  unfolding into
-  into-exact h = rw (ne-eqb type 0 some, eq-eqb _ _ h)
-
   pub into-other : (length dst ≡ length run → ⊥) → into type header run dst ≡ refused InadequateBufferSize
   unfolding into
   into-other h = rw (ne-eqb type 0 some, ne-eqb _ _ h)
+
+  pub into-exact : length dst ≡ length run → into type header run dst ≡ ok (record { header = header; bytes = run })
+  unfolding into
+  into-exact h = rw (ne-eqb type 0 some, eq-eqb _ _ h)
