@@ -26,7 +26,7 @@ unfolding least
 least-more f last = rw add-one
 
 -- numbers that are equal one by one have the same least
-least-same : (f g : ℕ → ℕ) (last : ℕ) → ((j : ℕ) → j ≤ last → f j ≡ g j) → least f last ≡ least g last
+pub least-same : (f g : ℕ → ℕ) (last : ℕ) → ((j : ℕ) → j ≤ last → f j ≡ g j) → least f last ≡ least g last
 unfolding least
 least-same f g zero e = e 0 (omega arith)
 least-same f g (suc last) e = ap₂ min (least-same f g last (λ j h. e j (omega arith))) (e (suc last) (omega arith))

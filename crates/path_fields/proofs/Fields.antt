@@ -4,16 +4,16 @@
 use Prim.Native.Nat.{ℕ, _+_, _%_, _≤_, _<_}
 use mathlib.Core.Path.{_≡_, refl, sym, ap, _∙_}
 use mathlib.Core.Bool.{Bool, true, false, not, cond}
-use mathlib.Core.List.{List}
+use mathlib.Core.List.{List, _++_}
 use native.Mathlib.Nat.{add-zero}
 use native.Mathlib.Omega.{arith}
 use lib.Dec.{eqb}
-use lib.ListN.{length, getD}
+use lib.ListN.{length, getD, length-append}
 use borrow.Author.Tests.{eq-eqb}
 use Rattle.wire_encoding.specs.Result.{ok}
 use Rattle.wire_encoding.specs.BigEndian.{part}
 use Rattle.wire_encoding.proofs.Bits.{flip-made, flip-above, flip-twice}
-use Rattle.wire_encoding.proofs.Lists.{Bytes, by-lt, length-part, getD-part, part-part, getD-by-part}
+use Rattle.wire_encoding.proofs.Lists.{Bytes, by-lt, length-part, getD-part, part-part, part-left, getD-by-part}
 use Rattle.wire_encoding.proofs.BigEndian.{read-part, part-by-number}
 use Rattle.path_fields.specs.declared.InfoField.{InfoField}
 use Rattle.path_fields.specs.declared.HopField.{HopField}
@@ -78,6 +78,13 @@ module _ (x y : List ℕ) (p q : ℕ) where
 
   pub same-hop : p + 12 ≤ length x → q + 12 ≤ length y → part p 12 x ≡ part q 12 y → hopFieldAt x p ≡ hopFieldAt y q
   same-hop hx hy e = sym (hop-at-part x p hx) ∙ ap (λ (l : List ℕ). hopFieldAt l 0) e ∙ hop-at-part y q hy
+
+-- a field among the first of two lists
+pub info-left : (a b : List ℕ) (at : ℕ) → at + 8 ≤ length a → infoFieldAt (a ++ b) at ≡ infoFieldAt a at
+info-left a b at h = same-info (a ++ b) a at at (simp length-append (omega arith)) h (part-left at 8 a b h)
+
+pub hop-left : (a b : List ℕ) (at : ℕ) → at + 12 ≤ length a → hopFieldAt (a ++ b) at ≡ hopFieldAt a at
+hop-left a b at h = same-hop (a ++ b) a at at (simp length-append (omega arith)) h (part-left at 12 a b h)
 
 -- the bytes of an info field, by the field
 pub info-bytes : (x y : List ℕ) → Bytes x → Bytes y → (at : ℕ) → at + 8 ≤ length x → at + 8 ≤ length y → infoFieldAt x at ≡ infoFieldAt y at

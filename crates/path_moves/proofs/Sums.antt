@@ -74,13 +74,13 @@ pub record Made (bytes : List ℕ) (m : PathMetaHeader) (limit : ℕ) : Type 0 w
   pub left : gone .bytes ≡ iterate (walkMoves m limit) (moved 1) bytes
 
 -- the path after n moves
-record After (bytes : List ℕ) (m : PathMetaHeader) (n : ℕ) : Type 0 where
-  left : PathMetaHeader
-  walking : Walking bytes m (iterate n (moved 1) bytes) left (m .«current_hop_field» + n) n
-  kept : Bytes (iterate n (moved 1) bytes)
+pub record After (bytes : List ℕ) (m : PathMetaHeader) (n : ℕ) : Type 0 where
+  pub left : PathMetaHeader
+  pub walking : Walking bytes m (iterate n (moved 1) bytes) left (m .«current_hop_field» + n) n
+  pub kept : Bytes (iterate n (moved 1) bytes)
 
 module _ (bytes : List ℕ) (small : Bytes bytes) (m : PathMetaHeader) (able : movable 1 bytes ≡ ok m) where
-  after : (n : ℕ) → m .«current_hop_field» + n < hopFieldsCount m → After bytes m n
+  pub after : (n : ℕ) → m .«current_hop_field» + n < hopFieldsCount m → After bytes m n
   after zero h = record { left = m; walking = begin bytes m able (add-zero _); kept = small }
   after (suc n) h = go (after n (omega arith))
     where
@@ -144,7 +144,7 @@ sums bytes small type a b = go (movable type bytes) refl
     go (refused error) e = rw e (rw e (refl, refl))
 
 -- a list of bytes, as a slice's rule gives it
-bytes-of : (bytes : List ℕ) → ((i : ℕ) → getD bytes i 0 < 256) → Bytes bytes
+pub bytes-of : (bytes : List ℕ) → ((i : ℕ) → getD bytes i 0 < 256) → Bytes bytes
 bytes-of bytes small i = omega (arith, small i)
 
 pub walks-add : WalksAdd

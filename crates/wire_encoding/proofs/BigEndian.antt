@@ -4,16 +4,16 @@ use mathlib.Core.Path.{_≡_, refl, sym, ap, ap₂, _∙_}
 use mathlib.Core.Bool.{Bool, true, false}
 use mathlib.Core.List.{List, [], _∷_, _++_, append-assoc}
 use Prim.Native.Nat.{ℕ, zero, suc, _+_, _-_, _*_, _/_, _%_, _^_, _<_, _≤_}
-use native.Mathlib.Nat.{mod-one, pow-suc, pow-le-pow-right, one-le-pow, zero-lt-suc}
+use native.Mathlib.Nat.{suc-mul, mod-one, pow-suc, pow-le-pow-right, one-le-pow, zero-lt-suc}
 use native.Mathlib.Numerals.{add-one}
 use native.Mathlib.Omega.{arith}
 use lib.Arith.{mod-mul, digits-div, digits-mod}
 use lib.Dec.{lit<, leb}
-use lib.ListN.{length, getD, take, drop, length-append}
-use lib.Seq.{sets, sets-eq, getD-append-add, getD-append-seam, getD-take, getD-drop, length-take-le}
+use lib.ListN.{length, getD, take, drop, length-append, length-drop, List·getD-append}
+use lib.Seq.{sets, sets-eq, getD-append-add, getD-append-seam, getD-take, getD-drop, length-take-le, take-append-le, drop-append-le}
 use borrow.Author.Tests.{le-leb, lt-leb, leb-true, leb-false}
 use Rattle.wire_encoding.specs.Result.{Result, ok, refused, orElse}
-use Rattle.wire_encoding.specs.BigEndian.{bigEndian, bytesOf, room, numberAt, part, NumbersReadBack, BytesReadBack, NumbersBelow}
+use Rattle.wire_encoding.specs.BigEndian.{bigEndian, bytesOf, room, numberAt, part, records, NumbersReadBack, BytesReadBack, NumbersBelow}
 use Rattle.wire_encoding.proofs.Result.{held, unmet}
 use Rattle.wire_encoding.proofs.Lists.{Bytes, bytes-append, part-last}
 
@@ -143,6 +143,18 @@ unfolding bigEndian
 number-by-getD x y zero at h = refl
 number-by-getD x y (suc width) at h =
     ap₂ (λ (a b : ℕ). a * 256 + b) (number-by-getD x y width at (λ i l r. h i l (omega arith))) (h (at + width) (omega arith) (omega arith))
+
+-- a number, and records, among the first of two lists
+pub number-left : (width : ℕ) (a b : List ℕ) (at : ℕ) → at + width ≤ length a → bigEndian width (a ++ b) at ≡ bigEndian width a at
+number-left width a b at h = number-by-getD (a ++ b) a width at (λ i l r. List·getD-append a b 0 i (omega arith))
+
+pub records-left : (k n : ℕ) (a b : List ℕ) → n * k ≤ length a → records k n (a ++ b) ≡ records k n a
+unfolding records
+records-left k zero a b h = refl
+records-left k (suc n) a b h =
+    let more : suc n * k ≡ n * k + k = suc-mul n k in
+    ap₂ (λ (first : List ℕ) (rest : List (List ℕ)). first ∷ rest) (take-append-le k a b (omega arith))
+    (ap (records k n) (drop-append-le k a b (omega arith)) ∙ records-left k n _ b (simp length-drop (omega arith)))
 
 -- by a part that holds it
 pub number-by-part : (width at n : ℕ) (x y : List ℕ) (p q : ℕ) → at + width ≤ n → part p n x ≡ part q n y

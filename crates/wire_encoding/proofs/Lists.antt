@@ -7,7 +7,7 @@ use Prim.Native.Nat.{ℕ, zero, suc, _+_, _-_, _≤_, _<_}
 use native.Mathlib.Nat.{add-assoc, add-zero, add-suc, suc-add}
 use native.Mathlib.Omega.{arith}
 use lib.Dec.{ltb}
-use lib.ListN.{length, take, drop, getD, set, length-take, length-drop, drop-of-length-le, take-append-drop}
+use lib.ListN.{length, take, drop, getD, set, length-take, length-drop, length-set, drop-of-length-le, take-append-drop}
 use lib.Seq.{
   sets,
   sets-eq,
@@ -130,6 +130,18 @@ part-left at n a b h =
 -- a part of the second, after one of that size
 pub part-right : (size at n : ℕ) (a b : List ℕ) → length a ≡ size → part (size + at) n (a ++ b) ≡ part at n b
 part-right size at n a b e = ap (λ (s : ℕ). part (s + at) n (a ++ b)) (sym e) ∙ ap (take n) (drop-append-add a b at)
+
+-- a write among the first list's bytes
+pub set-left : (a b : List ℕ) (i v : ℕ) → i < length a → set (a ++ b) i v ≡ set a i v ++ b
+set-left [] b i v h = absurd (omega arith)
+set-left (x ∷ a) b zero v h = refl
+set-left (x ∷ a) b (suc i) v h = ap (λ (l : List ℕ). x ∷ l) (set-left a b i v (omega arith))
+
+pub sets-left : (xs a b : List ℕ) (at : ℕ) → at + length xs ≤ length a → sets (a ++ b) at xs ≡ sets a at xs ++ b
+sets-left [] a b at h = refl
+sets-left (x ∷ xs) a b at h =
+    ap (λ (l : List ℕ). sets l (suc at) xs) (set-left a b at x (omega arith))
+    ∙ sets-left xs (set a at x) b (suc at) (simp length-set (omega arith))
 
 -- a part of what is left after the first bytes
 pub part-drop : (from at n : ℕ) (x : List ℕ) → part at n (drop from x) ≡ part (from + at) n x

@@ -1,0 +1,177 @@
+-- The path that is read of p ++ t is the one that is read of p, and every byte that a call looks at lies in p.
+-- Assumes nothing.
+use Prim.Native.Nat.{ℕ, zero, suc, _+_, _*_, _-_, _≤_, _<_}
+use mathlib.Core.Path.{_≡_, refl, sym, ap, ap₂, _∙_}
+use mathlib.Core.Bool.{Bool, true, false}
+use mathlib.Core.List.{List, _++_, flatMap, reverse as reversed}
+use native.Mathlib.Omega.{arith}
+use lib.Dec.{ltb}
+use lib.ListN.{length, take, drop, getD, set, length-append, length-drop, List·getD-append}
+use lib.Seq.{take-append-le, drop-append-le}
+use borrow.Author.Tests.{ltb-true}
+use Rattle.wire_encoding.specs.Result.{Result, ok, refused, require, andThen, mapped}
+use Rattle.wire_encoding.specs.BigEndian.{part, records, bytesOf}
+use Rattle.wire_encoding.specs.Bits.{withBit}
+use Rattle.wire_encoding.proofs.Lists.{part-left, set-left}
+use Rattle.wire_encoding.proofs.BigEndian.{number-left, records-left}
+use Rattle.errors.specs.declared.path_error.PathError.{PathError}
+use Rattle.errors.specs.declared.path_error.PathError.the-variants.{NoSuchField}
+use Rattle.path_fields.specs.Fields.{expiryTime, ingressInterface, egressInterface}
+use Rattle.path_fields.proofs.Fields.{info-left, hop-left}
+use Rattle.path_meta_header.specs.MetaHeader.{
+  metaOf, infoFieldsCount, hopFieldsCount, segmentOf, segmentLength, firstHopField, infoStart, hopStart, pathLength, hopFieldOffset, hopFieldOf}
+use Rattle.path_meta_header.specs.declared.PathMetaHeader.{PathMetaHeader}
+use Rattle.path.specs.declared.standard.Part.{Part}
+use Rattle.path.specs.Standard.{readPath, infoAt, hopAt}
+use Rattle.path.specs.Dataplane.{readDataplane, standard, infoFieldIn, hopFieldIn, segmentIn, alerted, Among, partIn}
+use Rattle.path.proofs.Reading.{Readable, path-read, standard-read}
+use Rattle.path.proofs.Segment.{inside}
+use Rattle.path_hop_fields.specs.PathRuns.{hopFieldsIn}
+use Rattle.path_expiry.specs.Expiry.{least, hopExpiry, segmentExpiry, pathExpiry, segmentExpiryIn, expiryIn, timeLeftIn}
+use Rattle.path_expiry.proofs.ExpiryLaws.{least-same}
+use Rattle.path_interfaces.specs.Interfaces.{Place, interfaceAt, interfacesIn, interfaceIn}
+use Rattle.path_interfaces.proofs.Interfaces.{interface-there}
+use Rattle.path_reverse.specs.Copy.{copy, into}
+use Rattle.path_reverse.specs.Reverse.{reversedRecords, flipped, same, reversedPath, reversedBytes, reverse}
+use Rattle.bytes_after_path.specs.BytesAfterPath.{writtenBefore, ReadAlike, WrittenAlike}
+
+module _ (p t : List ℕ) (m : PathMetaHeader) (r : Readable p m) where
+  whole : 4 + infoFieldsCount m * 8 + hopFieldsCount m * 12 ≤ length p
+  unfolding pathLength
+  whole = r .whole
+
+  -- READING
+
+  pub readable-after : Readable (p ++ t) m
+  readable-after =
+      record {
+        sound-meta = r .sound-meta;
+        whole = simp length-append (omega (arith, r .whole));
+        word = r .word ∙ ap metaOf (sym (number-left 4 p t 0 (omega (arith, whole))));
+      }
+
+  pub standard-after : standard 1 (p ++ t) ≡ standard 1 p
+  standard-after = standard-read (p ++ t) m readable-after ∙ sym (standard-read p m r)
+
+  reading-after : readDataplane 1 (p ++ t) ≡ readDataplane 1 p
+  unfolding readDataplane
+  reading-after = rw (path-read (p ++ t) m readable-after, path-read p m r)
+
+  -- FIELDS
+
+  pub info-after : (k : ℕ) → k < infoFieldsCount m → infoAt (p ++ t) k ≡ infoAt p k
+  info-after k l = info-left p t (infoStart k) (omega (arith, whole))
+
+  pub hop-after : (j : ℕ) → j < hopFieldsCount m → hopAt (p ++ t) m j ≡ hopAt p m j
+  hop-after j l = hop-left p t (hopStart m j) (omega (arith, whole))
+
+  -- EXPIRY
+
+  segment-expiry-same : (k : ℕ) → k < infoFieldsCount m → segmentExpiry (p ++ t) m k ≡ segmentExpiry p m k
+  unfolding segmentExpiry hopExpiry
+  segment-expiry-same k l =
+      let lies = inside p m k l (r .whole) in
+      least-same _ _ (segmentLength m k - 1)
+      (λ j h. ap₂ (λ info hop. expiryTime (info .timestamp) (hop .«exp_time»)) (info-after k l)
+      (hop-left p t (hopStart m (firstHopField m k + j)) (omega (arith, lies .hops, lies .one))))
+
+  expiry-same : pathExpiry (p ++ t) m ≡ pathExpiry p m
+  unfolding pathExpiry
+  expiry-same = least-same _ _ (infoFieldsCount m - 1) (λ k h. segment-expiry-same k (omega (arith, r .sound-meta .info)))
+
+  segment-expiry-after : (k : ℕ) → segmentExpiryIn 1 (p ++ t) k ≡ segmentExpiryIn 1 p k
+  unfolding segmentExpiryIn
+  segment-expiry-after k = rw (standard-read (p ++ t) m readable-after, standard-read p m r) (go (ltb k (infoFieldsCount m)) refl)
+    where
+      go : (there : Bool) → ltb k (infoFieldsCount m) ≡ there
+          → require {A = ℕ} there NoSuchField (ok (segmentExpiry (p ++ t) m k)) ≡ require there NoSuchField (ok (segmentExpiry p m k))
+      go true e = ap ok (segment-expiry-same k (ltb-true _ _ e))
+      go false e = refl
+
+  expiry-after : expiryIn 1 (p ++ t) ≡ expiryIn 1 p
+  unfolding expiryIn
+  expiry-after = rw (standard-read (p ++ t) m readable-after, standard-read p m r) (ap ok expiry-same)
+
+  -- INTERFACES
+
+  interface-after : (i : ℕ) → interfaceIn 1 (p ++ t) i ≡ interfaceIn 1 p i
+  unfolding interfaceIn interfaceAt
+  interface-after i = rw (standard-read (p ++ t) m readable-after, standard-read p m r) (go (hopFieldOf m i) refl)
+    where
+      found : List ℕ → ℕ → Result PathError Place
+      found bytes j = ok (record { hop = j; interface = interfaceAt bytes m j i })
+
+      go : (of : Result PathError ℕ) → hopFieldOf m i ≡ of → andThen of (found (p ++ t)) ≡ andThen of (found p)
+      go (ok j) e =
+          let there = interface-there p m r i e in
+          rw (info-after (segmentOf m j) (there .segment-inside), hop-left p t (hopStart m j) (there .hop-inside))
+      go (refused error) e = refl
+
+  -- COPY AND REVERSAL
+
+  front-same : take (pathLength m) (p ++ t) ≡ take (pathLength m) p
+  front-same = take-append-le (pathLength m) p t (r .whole)
+
+  copy-after : (dst : List ℕ) → copy 1 (p ++ t) dst ≡ copy 1 p dst
+  unfolding copy readDataplane
+  copy-after dst = rw (path-read (p ++ t) m readable-after, path-read p m r, front-same)
+
+  records-same : (f : List ℕ → List ℕ) (k n from : ℕ) → from + n * k ≤ length p
+      → reversedRecords f k n (drop from (p ++ t)) ≡ reversedRecords f k n (drop from p)
+  unfolding reversedRecords
+  records-same f k n from h =
+      ap (λ (l : List (List ℕ)). flatMap f (reversed l))
+      (ap (records k n) (drop-append-le from p t (omega arith)) ∙ records-left k n (drop from p) t (simp length-drop (omega arith)))
+
+  reversed-same : reversedPath m (p ++ t) ≡ reversedPath m p
+  unfolding reversedPath
+  reversed-same =
+      rw (
+        records-same flipped 8 (infoFieldsCount m) (infoStart 0) (omega (arith, whole)),
+        records-same same 12 (hopFieldsCount m) (infoStart (infoFieldsCount m)) (omega (arith, whole)),
+      )
+
+  reverse-after : (dst : List ℕ) → reverse 1 (p ++ t) dst ≡ reverse 1 p dst
+  unfolding reverse readDataplane reversedBytes
+  reverse-after dst = rw (path-read (p ++ t) m readable-after, path-read p m r, reversed-same)
+
+  -- ALERT FLAGS
+
+  pub alert-after : (bit : ℕ) (on : Bool) (j : ℕ) → alerted bit on 1 (p ++ t) j ≡ mapped (writtenBefore t) (alerted bit on 1 p j)
+  unfolding alerted hopFieldOffset
+  alert-after bit on j = rw (standard-read (p ++ t) m readable-after, standard-read p m r) (go (ltb j (hopFieldsCount m)) refl)
+    where
+      at : ℕ
+      at = hopStart m j
+
+      go : (there : Bool) → ltb j (hopFieldsCount m) ≡ there
+          → andThen (require there NoSuchField (ok at))
+          (λ flags. ok (record { header = m; bytes = set (p ++ t) flags (withBit bit on (getD (p ++ t) flags 0)) }))
+          ≡ mapped (writtenBefore t) (andThen (require there NoSuchField (ok at))
+          (λ flags. ok (record { header = m; bytes = set p flags (withBit bit on (getD p flags 0)) })))
+      go true e =
+          let l = ltb-true j (hopFieldsCount m) e in
+          rw (List·getD-append p t 0 at (omega (arith, whole)), set-left p t at (withBit bit on (getD p at 0)) (omega (arith, whole)))
+      go false e = refl
+
+  -- ALL OF THEM
+
+  pub read-alike : ReadAlike p t
+  unfolding infoFieldIn hopFieldIn segmentIn hopFieldsIn timeLeftIn interfacesIn
+  read-alike =
+      record {
+        reading = reading-after;
+        info-field = λ k. rw standard-after;
+        hop-field = λ j. rw standard-after;
+        segment = λ k. rw standard-after;
+        hop-fields = rw standard-after;
+        part = λ v h. part-left (v .start) (v .len) p t h;
+        segment-expiry = segment-expiry-after;
+        expiry = expiry-after;
+        time-left = λ now. rw expiry-after;
+        interfaces = rw standard-after;
+        interface = interface-after;
+      }
+
+  pub written-alike : WrittenAlike p t
+  written-alike = record { copied = copy-after; reversed = reverse-after }
