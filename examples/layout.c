@@ -28,7 +28,7 @@ SIZE(ScionSegment, 40); PATH_FIRST(ScionSegment); AT(ScionSegment, info_field, 8
 SIZE(ScionExpiry, 16); PATH_FIRST(ScionExpiry); AT(ScionExpiry, ms, 8);
 SIZE(ScionTimeLeft, 16); PATH_FIRST(ScionTimeLeft); AT(ScionTimeLeft, ms, 8);
 SIZE(ScionInterfaceCount, 16); PATH_FIRST(ScionInterfaceCount); AT(ScionInterfaceCount, count, 8);
-SIZE(ScionInterface, 24); PATH_FIRST(ScionInterface); AT(ScionInterface, hop_field, 8); AT(ScionInterface, interface, 16);
+SIZE(ScionInterface, 24); PATH_FIRST(ScionInterface); AT(ScionInterface, hop_field, 8); AT(ScionInterface, id, 16);
 SIZE(ScionWalk, 24); PATH_FIRST(ScionWalk); AT(ScionWalk, moves, 8); AT(ScionWalk, arrived, 16);
 SIZE(ScionPacket, 112); PATH_FIRST(ScionPacket); AT(ScionPacket, version, 8); AT(ScionPacket, traffic_class, 9);
 AT(ScionPacket, next_header, 10); AT(ScionPacket, header_length_factor, 11); AT(ScionPacket, path_type, 12);
@@ -91,7 +91,7 @@ int main(void) {
     ScionInterfaceCount count = scion_interfaces_count(1, path, len);
     CHECK(ok(count.answer, count.path, 4) && count.count == 6);
     ScionInterface interface = scion_interface(1, path, len, 3);
-    CHECK(ok(interface.answer, interface.path, 4) && interface.hop_field == 4 && interface.interface == 0x8E8F);
+    CHECK(ok(interface.answer, interface.path, 4) && interface.hop_field == 4 && interface.id == 0x8E8F);
     memcpy(b, path, len);
     ScionPathAnswer moved = scion_move(1, b, len);
     CHECK(ok(moved.answer, moved.path, 5));
@@ -166,6 +166,45 @@ int main(void) {
     CHECK(a.number == SCION_FACTOR && a.value == 0);
     h.source.kind = 16;
     CHECK(scion_write_headers(h, path, 20, dst, 68).number == SCION_NUMBER_TOO_WIDE);
+
+    /* NULL with length 0: no byte is looked at, and none is written. */
+    CHECK(scion_read_packet(NULL, 0).answer.number == SCION_CUT_SHORT);
+    for (unsigned type = 0; type < 3; type++) {
+        unsigned first = type == 1 ? SCION_CUT_SHORT : 0, then = type == 1 ? SCION_CUT_SHORT : SCION_NO_SUCH_FIELD;
+        CHECK(scion_read_path((uint8_t)type, NULL, 0).answer.number == first);
+        CHECK(scion_info_field((uint8_t)type, NULL, 0, 0).answer.number == then);
+        CHECK(scion_hop_field((uint8_t)type, NULL, 0, 0).answer.number == then);
+        CHECK(scion_segment((uint8_t)type, NULL, 0, 0).answer.number == then);
+        CHECK(scion_segment_expiry((uint8_t)type, NULL, 0, 0).answer.number == then);
+        CHECK(scion_expiry((uint8_t)type, NULL, 0).answer.number == then);
+        CHECK(scion_time_left((uint8_t)type, NULL, 0, 0).answer.number == then);
+        CHECK(scion_interfaces_count((uint8_t)type, NULL, 0).answer.number == then);
+        CHECK(scion_interface((uint8_t)type, NULL, 0, 0).answer.number == then);
+        CHECK(scion_set_ingress_router_alert((uint8_t)type, NULL, 0, 0, true).answer.number == then);
+        CHECK(scion_set_egress_router_alert((uint8_t)type, NULL, 0, 0, true).answer.number == then);
+        CHECK(scion_move((uint8_t)type, NULL, 0).answer.number == then);
+        CHECK(scion_walk((uint8_t)type, NULL, 0, 1).answer.number == then);
+        CHECK(scion_copy_path((uint8_t)type, NULL, 0, NULL, 0).answer.number == first);
+        CHECK(scion_reverse_path((uint8_t)type, NULL, 0, NULL, 0).answer.number == first);
+    }
+    CHECK(scion_copy_path(1, path, 100, NULL, 0).answer.number == SCION_DESTINATION_SIZE);
+    CHECK(scion_reverse_path(1, path, 100, NULL, 0).answer.number == SCION_DESTINATION_SIZE);
+    h = scion_new_headers(1, to, 2, from, 0, 0, 0, 0, 0);
+    CHECK(scion_write_headers(h, NULL, 0, dst, 48).number == 0 && scion_write_headers(h, NULL, 0, NULL, 0).number == SCION_DESTINATION_SIZE);
+    CHECK(scion_write_new_headers(1, to, 2, from, 0, 0, 0, 0, NULL, 0, dst, 48).number == 0);
+
+    /* The constants: a network's two numbers, and the bits of flags. */
+    CHECK(SCION_ISD(0x0001FF0000000110) == 1 && SCION_AS(0x0001FF0000000110) == 0xFF0000000110
+        && SCION_IA(1, 0xFF0000000110) == 0x0001FF0000000110);
+    CHECK(scion_time_left(1, path, 100, SCION_MAX_NOW).answer.number == SCION_ACCEPTED
+        && scion_time_left(1, path, 100, SCION_MAX_NOW + 1).answer.number == SCION_NUMBER_TOO_WIDE);
+    len = build(b, 1, 0, 0, 0, 0);
+    CHECK(scion_set_ingress_router_alert(1, b, len, 0, true).answer.number == 0
+        && (scion_hop_field(1, b, len, 0).flags & SCION_HOP_INGRESS_ALERT) != 0);
+    CHECK(scion_set_ingress_router_alert(1, b, len, 0, false).answer.number == 0
+        && (scion_hop_field(1, b, len, 0).flags & SCION_HOP_INGRESS_ALERT) == 0);
+    b[4] = SCION_INFO_CONSTRUCTION_DIRECTION;
+    CHECK(scion_info_field(1, b, len, 0).flags == SCION_INFO_CONSTRUCTION_DIRECTION);
 
     if (failed == 0)
         printf("layout: the header and the library agree\n");

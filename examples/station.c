@@ -1,17 +1,24 @@
-/* A ground station: it reads a packet, decides whether it trusts the packet's path, moves the packet on, and answers it.
+/* A ground station: it reads a packet, decides whether it trusts the packet's path, and moves the packet on or answers it.
  *
  *     station NOW [FILE]
  *
- * NOW is the time in ms since 1970. The packet comes from FILE, or from standard input.
+ * NOW is the time in ms since 1970. The packet comes from FILE, or from standard input. The status is 0 where the packet is moved on
+ * or answered, 1 where it is refused, 2 where the command is wrong or the file can't be read.
  */
 #include "scion_proto.h"
 
+#include <errno.h>
 #include <stdio.h>
 #include <stdlib.h>
+#include <string.h>
 
-/* The interfaces that a path may use, and how long the flight takes in ms. */
-static const uint16_t allowed[] = {1, 2, 3, 4, 5, 7};
+/* The interfaces that a path may use, how long the flight takes in ms, and what is answered. */
+static const uint16_t listed[] = {1, 2, 3, 4, 5, 7};
 static const int64_t flight = 60000;
+static const uint8_t payload[4] = {'h', 'e', 'r', 'e'};
+
+/* Headers, and so the path in them, have at most 4 * 255 bytes; a payload has at most 65,535. */
+enum { HEADERS = 1020, PACKET = HEADERS + 65535 };
 
 static const char *const meaning[] = {
     "accepted",
@@ -24,7 +31,7 @@ static const char *const meaning[] = {
     "bytes are left over after the path",
     "no such field, or not a standard path",
     "the destination has the wrong size",
-    "a number is too large for its field",
+    "a number is too large for its field, or the time too late",
     "the payload is too large",
     "the headers are too large",
     "more than 64 hop fields",
@@ -37,34 +44,93 @@ static void accept(const char *what, ScionAnswer answer) {
     if (answer.number == SCION_ACCEPTED)
         return;
     printf("%s refused: %u, %s", what, answer.number, meaning[answer.number]);
-    if (answer.value != 0)
+    if (answer.number == SCION_VERSION || answer.number == SCION_FACTOR)
         printf(" (%u)", answer.value);
     printf("\n");
     exit(1);
 }
 
-static bool is_allowed(uint16_t interface) {
-    for (size_t i = 0; i < sizeof allowed / sizeof allowed[0]; i++)
-        if (allowed[i] == interface)
+/* Ends the program where the command is wrong. */
+static void usage(const char *why) {
+    fprintf(stderr, "station: %s\nusage: station NOW [FILE], NOW in ms since 1970\n", why);
+    exit(2);
+}
+
+static bool is_listed(uint16_t id) {
+    for (size_t i = 0; i < sizeof listed / sizeof listed[0]; i++)
+        if (listed[i] == id)
             return true;
     return false;
 }
 
-int main(int argc, char **argv) {
-    /* Headers and the path in them are at most 4 * 255 bytes. */
-    static uint8_t bytes[70000], reply_path[1020], reply[1020];
+/* Every interface on the path must be listed. */
+static void check_interfaces(uint8_t type, const uint8_t *path, size_t len) {
+    ScionInterfaceCount interfaces = scion_interfaces_count(type, path, len);
+    accept("interfaces", interfaces.answer);
+    for (size_t i = 0; i < interfaces.count; i++) {
+        ScionInterface found = scion_interface(type, path, len, i);
+        accept("interface", found.answer);
+        if (!is_listed(found.id)) {
+            printf("interface %u of hop field %zu is not listed\n", found.id, found.hop_field);
+            exit(1);
+        }
+    }
+    printf("interfaces: all %zu are listed\n", interfaces.count);
+}
 
-    if (argc != 2 && argc != 3) {
-        fprintf(stderr, "usage: station NOW [FILE]\n");
-        return 2;
+/* The path must outlive the flight. */
+static void check_time(uint8_t type, const uint8_t *path, size_t len, uint64_t now) {
+    ScionTimeLeft left = scion_time_left(type, path, len, now);
+    accept("time left", left.answer);
+    if (left.ms <= flight) {
+        printf("the path has %lld ms left, the flight takes %lld\n", (long long)left.ms, (long long)flight);
+        exit(1);
     }
-    uint64_t now = strtoull(argv[1], NULL, 10);
+    printf("time left: %lld ms\n", (long long)left.ms);
+}
+
+/* Whether a packet with this path has arrived: the hop pointer is at the last hop field. */
+static bool has_arrived(ScionPath path) {
+    const uint8_t *lengths = path.segment_lengths;
+    return path.current_hop_field + 1 == lengths[0] + lengths[1] + lengths[2];
+}
+
+/* The answer to a packet that has arrived: the same path back, from its destination to its source. */
+static void reply_to(const ScionPacket *packet, const uint8_t *path) {
+    static uint8_t reply_path[HEADERS], reply[HEADERS + sizeof payload];
+    size_t path_len = packet->path_part.len;
+    accept("reply's path", scion_reverse_path(packet->path_type, path, path_len, reply_path, path_len).answer);
+    ScionHeaders headers = scion_new_headers(packet->source_ia, packet->source, packet->destination_ia, packet->destination,
+                                             packet->path_type, path_len, packet->next_header, sizeof payload, packet->flow_id);
+    size_t len = scion_headers_length(headers, path_len);
+    accept("reply", scion_write_headers(headers, reply_path, path_len, reply, len));
+    memcpy(reply + len, payload, sizeof payload);
+    printf("reply:");
+    for (size_t i = 0; i < len + sizeof payload; i++)
+        printf(" %02X", reply[i]);
+    printf("\n");
+}
+
+int main(int argc, char **argv) {
+    static uint8_t bytes[PACKET + 1];
+
+    if (argc != 2 && argc != 3)
+        usage("one or two words are wanted");
+    char *end;
+    errno = 0;
+    uint64_t now = strtoull(argv[1], &end, 10);
+    if (argv[1][0] < '0' || argv[1][0] > '9' || *end != 0 || errno != 0)
+        usage("NOW is not a number");
     FILE *file = argc == 3 ? fopen(argv[2], "rb") : stdin;
-    if (file == NULL) {
-        perror(argv[2]);
+    size_t len = file == NULL ? 0 : fread(bytes, 1, sizeof bytes, file);
+    if (file == NULL || ferror(file)) {
+        perror(argc == 3 ? argv[2] : "standard input");
         return 2;
     }
-    size_t len = fread(bytes, 1, sizeof bytes, file);
+    if (len > PACKET) {
+        fprintf(stderr, "station: more bytes than a packet has\n");
+        return 2;
+    }
 
     /* The packet: its headers as values, its path and its payload as parts of the bytes. */
     ScionPacket packet = scion_read_packet(bytes, len);
@@ -74,47 +140,22 @@ int main(int argc, char **argv) {
     size_t path_len = packet.path_part.len;
     printf("packet: %zu bytes of path, %zu bytes of payload\n", path_len, packet.payload_part.len);
 
-    /* Every interface on the path must be one of ours. */
-    ScionInterfaceCount interfaces = scion_interfaces_count(type, path, path_len);
-    accept("interfaces", interfaces.answer);
-    for (size_t i = 0; i < interfaces.count; i++) {
-        ScionInterface found = scion_interface(type, path, path_len, i);
-        accept("interface", found.answer);
-        if (!is_allowed(found.interface)) {
-            printf("interface %u of hop field %zu is not allowed\n", found.interface, found.hop_field);
-            return 1;
-        }
+    /* An empty path stays inside one network: there is nothing to check and nothing to move. */
+    if (type == SCION_PATH_EMPTY) {
+        reply_to(&packet, path);
+        return 0;
     }
-    printf("interfaces: all %zu allowed\n", interfaces.count);
+    check_interfaces(type, path, path_len);
+    check_time(type, path, path_len, now);
 
-    /* The path must outlive the flight. */
-    ScionTimeLeft left = scion_time_left(type, path, path_len, now);
-    accept("time left", left.answer);
-    if (left.ms <= flight) {
-        printf("the path has %lld ms left, the flight takes %lld\n", (long long)left.ms, (long long)flight);
-        return 1;
-    }
-    printf("time left: %lld ms\n", (long long)left.ms);
-
-    /* One move, in the packet's own bytes. */
-    ScionPathAnswer moved = scion_move(type, path, path_len);
-    accept("move", moved.answer);
-    printf("moved: info field %u, hop field %u\n", moved.path.current_info_field, moved.path.current_hop_field);
-    const uint8_t *lengths = moved.path.segment_lengths;
-    if (moved.path.current_hop_field + 1 < lengths[0] + lengths[1] + lengths[2]) {
-        printf("the packet is on its way: nothing to answer yet\n");
+    if (has_arrived(packet.path)) {
+        reply_to(&packet, path);
         return 0;
     }
 
-    /* It has arrived. The reply takes the same path back, from our host to the sender's, with a payload of 4 bytes. */
-    accept("reply's path", scion_reverse_path(type, path, path_len, reply_path, path_len).answer);
-    ScionHeaders headers = scion_new_headers(packet.source_ia, packet.source, packet.destination_ia, packet.destination,
-                                             type, path_len, packet.next_header, 4, packet.flow_id);
-    size_t reply_len = scion_headers_length(headers, path_len);
-    accept("reply", scion_write_headers(headers, reply_path, path_len, reply, reply_len));
-    printf("reply:");
-    for (size_t i = 0; i < reply_len; i++)
-        printf(" %02X", reply[i]);
-    printf("\n");
+    /* It is on its way: one move, in the packet's own bytes, as it leaves for the next hop field. */
+    ScionPathAnswer moved = scion_move(type, path, path_len);
+    accept("move", moved.answer);
+    printf("moved on: info field %u, hop field %u\n", moved.path.current_info_field, moved.path.current_hop_field);
     return 0;
 }

@@ -1,8 +1,22 @@
 /* SCION headers for a ground station: the calls of the static library libscion_proto.a.
  *
+ * A SCION packet is a common header, an address header, a path and a payload. The sender chooses the path: up to three segments,
+ * each an info field and a run of hop fields, one for each network (AS) on the way and two where segments meet. A hop field names
+ * the interfaces by which the packet enters and leaves that network, until when they may be used, and a code (MAC) by which the
+ * network's router knows its own hop field. Two pointers in the path say which info field and which hop field the packet has come to.
+ *
  * Every call reads first and answers with a number: 0 is accepted, 1 to 15 are refusals, below. A refusal hands back zeros in
- * every other field (2 and 3 also their value) and changes no lent byte. Nothing is asked of the caller but memory: any type
- * byte, index, size and contents will do. A length of 0 may come with any pointer that is not null.
+ * every other field (2 and 3 also their value) and changes no lent byte. Any type byte, index, size and contents will do.
+ *
+ * What is asked of the caller is memory, and nothing else:
+ * - `bytes` points to `len` bytes that can be read, and written where it isn't const; so do `path` and `dst`. NULL with length 0
+ *   will do.
+ * - BUFFERS MUST NOT OVERLAP: in a call with a source and a destination, no byte may be in both. A path can't be copied or
+ *   reversed in place: such a call answers 0 and leaves a wrong path.
+ * The calls keep nothing between them and share nothing, so threads may call at the same time on bytes that none of them changes.
+ *
+ * Numbers in structs are the machine's own; on the wire they are big-endian, which the library sees to. `start` of a field or part
+ * counts from the first byte of what was handed to that call: the packet for scion_read_packet, the path for all others.
  */
 #ifndef SCION_PROTO_H
 #define SCION_PROTO_H
@@ -10,6 +24,9 @@
 #include <stdbool.h>
 #include <stddef.h>
 #include <stdint.h>
+
+/* Raised whenever a struct or a call changes. Header and archive have to be of one version; examples/layout.c checks it. */
+#define SCION_PROTO_VERSION 1
 
 #ifdef __cplusplus
 extern "C" {
@@ -27,7 +44,7 @@ enum {
     SCION_LEFT_OVER_BYTES = 7,      /* bytes between the path and the end of the header */
     SCION_NO_SUCH_FIELD = 8,        /* no such info field, segment, hop field or interface, or not a standard path */
     SCION_DESTINATION_SIZE = 9,     /* destination not of the exact size */
-    SCION_NUMBER_TOO_WIDE = 10,     /* a number wider than its field, or a time above its bound */
+    SCION_NUMBER_TOO_WIDE = 10,     /* a number wider than its field, or a time above SCION_MAX_NOW */
     SCION_PAYLOAD_TOO_LARGE = 11,   /* payload above 65,535 bytes */
     SCION_HEADER_TOO_LARGE = 12,    /* header length factor above 255 */
     SCION_TOO_MANY_HOP_FIELDS = 13, /* more than 64 hop fields */
@@ -35,18 +52,43 @@ enum {
     SCION_AT_LAST_HOP_FIELD = 15    /* a single move at the last hop field */
 };
 
-/* Path types: any other byte is an opaque path. */
+/* Path types: any other byte is an opaque path, all the bytes given. Calls on fields, times, interfaces and moves are for standard
+ * paths; they answer 8 for every other type. */
 enum { SCION_PATH_EMPTY = 0, SCION_PATH_STANDARD = 1 };
 
 /* Host kinds: any other of 0 to 15 is an opaque host of 4 * (kind % 4 + 1) bytes. */
 enum { SCION_HOST_IPV4 = 0, SCION_HOST_IPV6 = 3, SCION_HOST_SERVICE = 4 };
 
+/* Numbers of services; SCION_SERVICE_MULTICAST may be added to one. */
+enum {
+    SCION_SERVICE_DAEMON = 0x0001,
+    SCION_SERVICE_CONTROL = 0x0002,
+    SCION_SERVICE_WILDCARD = 0x0010,
+    SCION_SERVICE_MULTICAST = 0x8000,
+    SCION_SERVICE_NONE = 0xFFFF
+};
+
+/* Bits of `flags`: of an info field, and of a hop field. */
+enum { SCION_INFO_CONSTRUCTION_DIRECTION = 0x01, SCION_INFO_PEERING = 0x02 };
+enum { SCION_HOP_EGRESS_ALERT = 0x01, SCION_HOP_INGRESS_ALERT = 0x02 };
+
+/* The latest `now` that is taken: ms since 1970, the year 2255. */
+#define SCION_MAX_NOW UINT64_C(9000000000000)
+
+/* A network's number (IA): the ISD in the high 16 bits, the AS in the low 48. */
+#define SCION_ISD(ia) ((uint16_t)((uint64_t)(ia) >> 48))
+#define SCION_AS(ia) ((uint64_t)(ia) & UINT64_C(0xFFFFFFFFFFFF))
+#define SCION_IA(isd, as) ((uint64_t)(isd) << 48 | SCION_AS(as))
+
+/* An answer's number, and with 2 the version, with 3 the factor; else 0. */
 typedef struct {
     uint8_t number;
     uint8_t value;
 } ScionAnswer;
 
-/* The record of a standard path; all zero for other types. */
+/* The record of a standard path as the call leaves it, of the path written where it is copied or reversed; all zero for other types
+ * and on a refusal. The pointers count info fields and hop fields from 0. Segment k has segment_lengths[k] hop fields, 0 where there
+ * is no such segment; hop fields count through all segments. A packet has arrived when current_hop_field is the last. */
 typedef struct {
     uint8_t current_info_field;
     uint8_t current_hop_field;
@@ -54,13 +96,13 @@ typedef struct {
     uint8_t segment_lengths[3];
 } ScionPath;
 
-/* A part of the caller's bytes. */
+/* A part of the caller's bytes: `len` bytes from `start` on. */
 typedef struct {
     size_t start;
     size_t len;
 } ScionPart;
 
-/* A host: a service's number, or the first bytes of `bytes`, the others zero. */
+/* A host: a service's number and no bytes, or the first 4 * (kind % 4 + 1) of `bytes` as they are on the wire, the others zero. */
 typedef struct {
     uint8_t kind;
     uint16_t service;
@@ -78,7 +120,7 @@ typedef struct {
     size_t length;
 } ScionPathRead;
 
-/* An info field and where it starts. */
+/* An info field and where it starts; `timestamp` in seconds since 1970. */
 typedef struct {
     ScionAnswer answer;
     ScionPath path;
@@ -89,7 +131,9 @@ typedef struct {
     uint32_t timestamp;
 } ScionInfoField;
 
-/* A hop field and where it starts. */
+/* A hop field and where it starts. It expires 337,500 * (1 + exp_time) ms after its info field's timestamp: 5 min 37.5 s to 24 h.
+ * cons_ingress and cons_egress are the interfaces in construction direction; where the info field's direction bit is clear, the
+ * packet enters by cons_egress and leaves by cons_ingress. 0 is no interface. */
 typedef struct {
     ScionAnswer answer;
     ScionPath path;
@@ -101,6 +145,7 @@ typedef struct {
     uint8_t mac[6];
 } ScionHopField;
 
+/* Where a segment's info field and its hop fields lie in the path's bytes. */
 typedef struct {
     ScionAnswer answer;
     ScionPath path;
@@ -133,7 +178,7 @@ typedef struct {
     ScionAnswer answer;
     ScionPath path;
     size_t hop_field;
-    uint16_t interface;
+    uint16_t id;
 } ScionInterface;
 
 /* How many moves a walk made, and whether it stands at the last hop field. */
@@ -144,7 +189,8 @@ typedef struct {
     bool arrived;
 } ScionWalk;
 
-/* A packet that was split: every value of its headers, and where its path and its payload lie. */
+/* A packet that was split: every value of its headers, and where its path and its payload lie in its bytes. The headers are
+ * 4 * header_length_factor bytes long, traffic_class has 8 bits, flow_id 20. */
 typedef struct {
     ScionAnswer answer;
     ScionPath path;
@@ -180,11 +226,14 @@ typedef struct {
     ScionHost source;
 } ScionHeaders;
 
-/* Reading. */
+/* Reading. Bytes after a packet's payload, and after a standard path, are no part of it; `length` is the path's own. */
 ScionPacket scion_read_packet(const uint8_t *bytes, size_t len);
 ScionPathRead scion_read_path(uint8_t path_type, const uint8_t *bytes, size_t len);
 
-/* Views of a standard path. */
+/* Views of a standard path. `index` counts info fields, hop fields, segments or interfaces from 0; 8 where there is none.
+ * A segment's expiry is the least of its hop fields', a path's the least of its segments'. `now` is in ms since 1970, at most
+ * SCION_MAX_NOW. Interfaces come in the order of travel: an even index is the one by which the packet leaves a network, the odd one
+ * after it that by which it enters the next. */
 ScionInfoField scion_info_field(uint8_t path_type, const uint8_t *bytes, size_t len, size_t index);
 ScionHopField scion_hop_field(uint8_t path_type, const uint8_t *bytes, size_t len, size_t index);
 ScionSegment scion_segment(uint8_t path_type, const uint8_t *bytes, size_t len, size_t index);
@@ -194,24 +243,30 @@ ScionTimeLeft scion_time_left(uint8_t path_type, const uint8_t *bytes, size_t le
 ScionInterfaceCount scion_interfaces_count(uint8_t path_type, const uint8_t *bytes, size_t len);
 ScionInterface scion_interface(uint8_t path_type, const uint8_t *bytes, size_t len, size_t index);
 
-/* Changes to a path in place. */
+/* Changes to a path in place. An alert flag of hop field `index` is set or cleared. A move takes the path one hop field on as the
+ * routers in between do; 15 where the packet has arrived. A walk makes moves until the packet has arrived, or `limit` of them. Both
+ * answer 13 and 14 for paths that routers don't take. */
 ScionPathAnswer scion_set_ingress_router_alert(uint8_t path_type, uint8_t *bytes, size_t len, size_t index, bool on);
 ScionPathAnswer scion_set_egress_router_alert(uint8_t path_type, uint8_t *bytes, size_t len, size_t index, bool on);
 ScionPathAnswer scion_move(uint8_t path_type, uint8_t *bytes, size_t len);
 ScionWalk scion_walk(uint8_t path_type, uint8_t *bytes, size_t len, size_t limit);
 
-/* A path copied, or turned into the reply's path, into a destination of its exact length. */
+/* A path copied, or reversed, into a destination of its exact length (ScionPathRead's `length`; all bytes of an opaque path). An
+ * empty path writes nothing, and its destination may have any size. The reply's path is the reverse of the path of a packet that has
+ * arrived: walk a copy to its end first where it has not. bytes and dst must not overlap. */
 ScionPathAnswer scion_copy_path(uint8_t path_type, const uint8_t *bytes, size_t len, uint8_t *dst, size_t dst_len);
 ScionPathAnswer scion_reverse_path(uint8_t path_type, const uint8_t *bytes, size_t len, uint8_t *dst, size_t dst_len);
 
 /* Writing: the headers of a path of `path_len` bytes with version, traffic class and reserved 0 and the factor that follows from
- * the lengths; how many bytes they take with a path; and the bytes themselves into a destination of that size. */
+ * the lengths; how many bytes they take with a path, at most 1,020 where they can be written, SIZE_MAX where no number can say it;
+ * and the bytes themselves, path included, into a destination of that size. flow_id has 20 bits. A path of type 0 adds no bytes;
+ * the bytes of any other are written as given, unread. path and dst must not overlap. */
 ScionHeaders scion_new_headers(uint64_t destination_ia, ScionHost destination, uint64_t source_ia, ScionHost source,
                                uint8_t path_type, size_t path_len, uint8_t next_header, size_t payload_length, uint32_t flow_id);
 size_t scion_headers_length(ScionHeaders headers, size_t path_len);
 ScionAnswer scion_write_headers(ScionHeaders headers, const uint8_t *path, size_t path_len, uint8_t *dst, size_t dst_len);
 
-/* The headers that `scion_new_headers` makes for the path, written in one call. */
+/* The headers that `scion_new_headers` makes for the path, written in one call. path and dst must not overlap. */
 ScionAnswer scion_write_new_headers(uint64_t destination_ia, ScionHost destination, uint64_t source_ia, ScionHost source,
                                     uint8_t path_type, uint8_t next_header, size_t payload_length, uint32_t flow_id,
                                     const uint8_t *path, size_t path_len, uint8_t *dst, size_t dst_len);

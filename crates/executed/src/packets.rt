@@ -76,15 +76,18 @@ pub fn common(bytes: &[u8]) {
     print::number(read.header.payload_size() as u64);
 }
 
-// `address D S B`: the address header that begins the bytes, of hosts of kinds D and S; its length; whether each host has a name.
+// Two host kinds in one byte, as the common header has them.
+fn host_kinds(destination: u8, source: u8) -> u8 {
+    destination % 16 * 16 + source % 16
+}
+
+// `address D S B`: the address header that begins the bytes, of hosts of kinds D and S, both below 16; its length; whether each host
+// has a name.
 pub fn address(line: &[u8]) {
     let mut room = [0u8; words::MOST_BYTES];
     let length = words::bytes_at(line, 3, &mut room);
-    let read = AddressHeader::decode_with_context(
-        &room[..length],
-        words::u8_at(line, 1),
-        words::u8_at(line, 2),
-    );
+    let kinds = host_kinds(words::u8_at(line, 1), words::u8_at(line, 2));
+    let read = AddressHeader::decode_with_context(&room[..length], kinds);
     let answer = read.answer;
     print::decoded(answer);
     address_record(read.header);

@@ -3,9 +3,9 @@
 use mathlib.Core.Path.{_≡_, refl, sym, ap, subst, _∙_}
 use mathlib.Core.Bool.{Bool, true, false}
 use mathlib.Core.List.{List}
-use Prim.Native.Nat.{ℕ, _+_, _-_, _≤_, _<_, min}
+use Prim.Native.Nat.{ℕ, _+_, _-_, _/_, _%_, _≤_, _<_, min}
 use native.Mathlib.Omega.{arith}
-use lib.ListN.{length, take, drop, length-drop, drop-of-length-le}
+use lib.ListN.{length, getD, take, drop, length-drop, drop-of-length-le}
 use lib.Seq.{take-add, take-all, take-length, drop-length, drop-at, length-take-le}
 use lib.Dec.{leb, eqb}
 use borrow.Author.Tests.{lt-leb, le-leb, leb-true, leb-false, eq-eqb, ne-eqb, eqb-true}
@@ -89,6 +89,11 @@ module _ {bytes : List ℕ} {c : CommonHeader} {end : ℕ} (f : CommonFound byte
       let k = common-known bytes (f .common) in
       let factor : c .«header_length_factor» ≡ factorOf bytes = ap (λ (x : CommonHeader). x .«header_length_factor») (k .fields) in
       (omega (arith, k .long, k .factor, f .ends), omega (arith, f .ends))
+
+  -- the kinds of the hosts are the halves of byte 9
+  pub kinds-read : (getD bytes 9 0 / 16 ≡ c .«destination_kind») × (getD bytes 9 0 % 16 ≡ c .«source_kind»)
+  unfolding commonAt
+  kinds-read = let fields = common-known bytes (f .common) .fields in rw fields (refl, refl)
 
   -- what is seen of them from k on
   pub sees : (k : ℕ) → k ≤ end → part k (end - k) bytes ≡ drop k (take (headerLength c) bytes)

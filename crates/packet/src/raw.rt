@@ -65,8 +65,7 @@ impl ScionPacketRaw {
         let end = header_end(common, bytes.len());
         let address_read = AddressHeader::decode_with_context(
             &bytes[CommonHeader::LENGTH..end],
-            common.destination_kind,
-            common.source_kind,
+            bytes[CommonHeader::HOST_KINDS],
         );
         let address_answer = address_read.answer;
         if let Decoded::Refused(error) = address_answer {

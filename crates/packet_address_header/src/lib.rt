@@ -18,7 +18,7 @@ use wire_encoding::write::put_u16;
 use wire_encoding::write::put_u32;
 use wire_encoding::write::put_u64;
 ghost use mathlib.Core.Path.{_≡_};
-ghost use Prim.Native.Nat.{_+_, _≤_};
+ghost use Prim.Native.Nat.{_+_, _/_, _%_, _≤_};
 ghost use lib.ListN.{length};
 ghost use lib.Seq.{sets};
 ghost use Rattle.wire_encoding.specs.Answers.{putAnswer};
@@ -316,14 +316,13 @@ impl AddressHeader {
             + self.source.encoded_length()
     }
 
-    // Reads the address header that begins `bytes`, whose hosts are of these kinds.
-    pub fn decode_with_context(
-        bytes: &[u8],
-        destination_kind: u8,
-        source_kind: u8,
-    ) -> AddressHeaderRead
-        ensures { λ r. ⌜ r ≡ spec.addressAnswer (spec.readAddress (now (bytes .entry)) «destination_kind» «source_kind») ⌝ }
+    // Reads the address header that begins `bytes`. `host_kinds` is the common header's byte of them, the destination's in its high
+    // half, so no kind is above 15.
+    pub fn decode_with_context(bytes: &[u8], host_kinds: u8) -> AddressHeaderRead
+        ensures { λ r. ⌜ r ≡ spec.addressAnswer (spec.readAddress (now (bytes .entry)) («host_kinds» / 16) («host_kinds» % 16)) ⌝ }
     {
+        let destination_kind = host_kinds / 16;
+        let source_kind = host_kinds % 16;
         let after = AddressHeader::BASE_LENGTH + AddressInfo(destination_kind).address_length();
         let end = after + AddressInfo(source_kind).address_length();
         if bytes.len() < end {

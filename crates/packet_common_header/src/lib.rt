@@ -72,6 +72,9 @@ impl CommonHeader {
 
     const MIN_HEADER_LENGTH_FACTOR: u8 = 9;
 
+    // Where the byte of the host kinds stands.
+    pub const HOST_KINDS: usize = 9;
+
     // The header that stands in the place of one that was refused.
     pub fn zero() -> CommonHeader
         ensures { λ r. ⌜ r ≡ spec.zeroCommon ⌝ }
@@ -136,7 +139,7 @@ impl CommonHeader {
         let first = u32_or_zero(bytes, 0);
         let payload_length = u16_or_zero(bytes, 6);
         let reserved = u16_or_zero(bytes, 10);
-        let kinds = bytes[9];
+        let kinds = bytes[CommonHeader::HOST_KINDS];
         CommonHeaderRead {
             answer: Decoded::Accepted,
             header: CommonHeader {

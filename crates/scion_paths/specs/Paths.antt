@@ -98,7 +98,7 @@ interfaceOut found =
       answer = answerOut (found .answer);
       path = found .path;
       «hop_field» = found .«hop_field»;
-      interface = interfaceNumber (found .interface);
+      id = interfaceNumber (found .interface);
     }
 
 -- a walk: how many moves it made, and whether it stands at the last hop field

@@ -134,7 +134,7 @@ pub struct ScionInterface {
     pub answer: ScionAnswer,
     pub path: StandardPath,
     pub hop_field: usize,
-    pub interface: u16,
+    pub id: u16,
 }
 
 // How many moves a walk made, and whether it stands at the last hop field.
@@ -287,7 +287,7 @@ pub fn interface_out(found: InterfaceAt) -> ScionInterface
         answer: answer_out(answer),
         path,
         hop_field: found.hop_field,
-        interface: interface_number(interface),
+        id: interface_number(interface),
     }
 }
 

@@ -210,7 +210,7 @@ pub struct Interface {
     pub answer: Answer,
     pub path: Path,
     pub hop_field: usize,
-    pub interface: u16,
+    pub id: u16,
 }
 
 /// How many moves a walk made, and whether it stands at the last hop field: 1 or 0.
@@ -323,7 +323,7 @@ laid_out!(Segment: 40 { answer @ 0 path @ 2 info_field @ 8 hop_fields @ 24 });
 laid_out!(Expiry: 16 { answer @ 0 path @ 2 ms @ 8 });
 laid_out!(TimeLeft: 16 { answer @ 0 path @ 2 ms @ 8 });
 laid_out!(InterfaceCount: 16 { answer @ 0 path @ 2 count @ 8 });
-laid_out!(Interface: 24 { answer @ 0 path @ 2 hop_field @ 8 interface @ 16 });
+laid_out!(Interface: 24 { answer @ 0 path @ 2 hop_field @ 8 id @ 16 });
 laid_out!(Walk: 24 { answer @ 0 path @ 2 moves @ 8 arrived @ 16 });
 laid_out!(Packet: 112 {
     answer @ 0 path @ 2 version @ 8 traffic_class @ 9 next_header @ 10 header_length_factor @ 11 path_type @ 12

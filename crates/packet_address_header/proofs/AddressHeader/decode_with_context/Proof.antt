@@ -1,4 +1,5 @@
 -- `AddressHeader::decode_with_context` meets its contract: one test for the three, and each part lies inside.
+use Prim.Native.Nat.{_/_, _%_}
 use native.Mathlib.Omega.{arith}
 use Rattle.wire_encoding.proofs.BigEndian.{or-zero-is}
 use Rattle.packet_address_header.specs.AddressHeader.{addressAt, addressAnswer, lengthOfKinds}
@@ -31,7 +32,7 @@ returns c =
     let first = second .before in
     let args = first .before .before .args in
     let short = rw (first .address-length .ensures .0, second .address-length2 .ensures .0) at (c .before .if1 .taken) in
-    rw (c .zero .ensures, truncated (args .bytes .now) (args .destination-kind) (args .source-kind) short)
+    rw (c .zero .ensures, truncated (args .bytes .now) (args .host-kinds / 16) (args .host-kinds % 16) short)
 
 read-requires : tie.Need-read-requires
 read-requires c κs =
@@ -57,8 +58,8 @@ returns-2 c =
     let bytes = args .bytes .now in
     let destination-long = first .address-length .ensures .0 in
     let source-long = second .address-length2 .ensures .0 in
-    let read = address-read bytes (args .destination-kind) (args .source-kind) (omega (arith, enough .if1 .left, destination-long, source-long)) in
-    let long = address-length bytes (args .destination-kind) (args .source-kind) in
+    let read = address-read bytes (args .host-kinds / 16) (args .host-kinds % 16) (omega (arith, enough .if1 .left, destination-long, source-long)) in
+    let long = address-length bytes (args .host-kinds / 16) (args .host-kinds % 16) in
     rw (
       read,
       long,

@@ -12,6 +12,7 @@ use Rattle.packet.proofs.RawLaws.{
   address-long,
   CommonFound,
   end-inside,
+  kinds-read,
   sees,
   AddressFound,
   start-inside,
@@ -62,6 +63,9 @@ part-decode-with-context-start c = end-inside (common c) .0
 part-decode-with-context-end : tie.Need-part-decode-with-context-end
 part-decode-with-context-end c = search needs
 
+shared-slice-read-decode-with-context : tie.Need-shared-slice-read-decode-with-context
+shared-slice-read-decode-with-context c = omega (arith, end-inside (common (c .before .before)))
+
 decode-with-context-requires : tie.Need-decode-with-context-requires
 decode-with-context-requires c κs = search needs
 
@@ -76,8 +80,8 @@ unfolding readPacket
 returns-2 c =
     let told = c .before .before in
     let read = told .before .before in
-    let found = common (read .before .before) in
-    let seen = rw (sees found 12 (end-inside found .0)) at (read .decode-with-context .ensures) in
+    let found = common (read .before .before .before) in
+    let seen = rw (sees found 12 (end-inside found .0), kinds-read found .0, kinds-read found .1) at (read .decode-with-context .ensures) in
     rw (found .common, address-refused _ seen (told .address-answer .given .1)) (c .refused2 .ensures)
 
 enum-told-2 : tie.Need-enum-told-2
@@ -85,14 +89,14 @@ enum-told-2 c = search needs
 
 -- the address header, and where the path starts
 address : (c : tie.After-address) → let a = c .before .before .before in
-    let h = a .before .before in
+    let h = a .before .before .before in
     let d = h .before .before .before .before in
     AddressFound (d .before .before .args .bytes .now) (d .decode .result .header) (h .header-end .result) (a .decode-with-context .result .header)
     (12 + a .decode-with-context .result .length)
 address c =
     let read = c .before .before .before in
-    let found = common (read .before .before) in
-    let seen = rw (sees found 12 (end-inside found .0)) at (read .decode-with-context .ensures) in
+    let found = common (read .before .before .before) in
+    let seen = rw (sees found 12 (end-inside found .0), kinds-read found .0, kinds-read found .1) at (read .decode-with-context .ensures) in
     let accepted = c .before .enum-told2 .given .1 in
     record { first = found; address = address-ok _ seen accepted; starts = ap (λ n. 12 + n) (address-long _ seen accepted) }
 
@@ -136,7 +140,7 @@ enum-told-3 c = search needs
 path : (c : tie.After-path) → let read = c .before .before .before in
     let after = read .before .before .before .before in
     let a = after .before .before .before in
-    let h = a .before .before in
+    let h = a .before .before .before in
     let d = h .before .before .before .before in
     PathFound (d .before .before .args .bytes .now) (d .decode .result .header) (h .header-end .result) (a .decode-with-context .result .header)
     (12 + a .decode-with-context .result .length)
@@ -194,6 +198,7 @@ decode-spec =
     sub-decode-with-context
     part-decode-with-context-start
     part-decode-with-context-end
+    shared-slice-read-decode-with-context
     decode-with-context-requires
     enum-known-address-answer
     refused-requires-2
