@@ -85,7 +85,7 @@ module _ (path : Result PathError PathMetaHeader) (error : PathError) where
   interface-count-refused = refl
 
   pub interface-refused : interfaceOut (interfaceFound path (refused error))
-      ≡ record { answer = answerOut (Refused error); path = zeros; «hop_field» = 0; interface = 0 }
+      ≡ record { answer = answerOut (Refused error); path = zeros; «hop_field» = 0; id = 0 }
   unfolding interfaceOut interfaceFound metaOf nthField
   interface-refused = refl
 

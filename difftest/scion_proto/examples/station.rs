@@ -1,28 +1,122 @@
-//! A ground station's look at a packet: `station NOW FILE`, NOW in ms since 1970.
+//! A ground station: it reads a packet, decides whether it trusts the packet's path, and moves the packet on or answers it.
+//!
+//!     station NOW FILE
+//!
+//! NOW is the time in ms since 1970. The status is 0 where the packet is moved on or answered, 1 where it is refused, 2 where the
+//! command is wrong or the file can't be read.
 
-use scion_proto::{Refusal, interface, interfaces_count, read_packet, reverse_path, single_move, time_left};
+use std::process::ExitCode;
 
-/// What is said of the packet, or the first refusal.
-fn look(bytes: &[u8], now: u64) -> Result<(), Refusal> {
-    let packet = read_packet(bytes)?;
-    let path = &bytes[packet.path_part.start..][..packet.path_part.len];
-    for index in 0..interfaces_count(packet.path_type, path)? {
-        println!("interface {index}: {}", interface(packet.path_type, path, index)?.interface);
+use scion_proto::{Ends, Headers, PATH_EMPTY, Packet, Path, Refusal};
+
+/// The interfaces that a path may use, how long the flight takes in ms, and what is answered.
+const LISTED: [u16; 6] = [1, 2, 3, 4, 5, 7];
+const FLIGHT: i64 = 60_000;
+const PAYLOAD: &[u8] = b"here";
+
+/// Why a packet is not taken.
+enum Why {
+    Refused(&'static str, Refusal),
+    NotListed(u16, usize),
+    TooLittleTime(i64),
+}
+
+/// The refusal of a call, with what was asked.
+fn of(what: &'static str) -> impl Fn(Refusal) -> Why {
+    move |refusal| Why::Refused(what, refusal)
+}
+
+/// Every interface on the path must be listed.
+fn check_interfaces(path_type: u8, path: &[u8]) -> Result<(), Why> {
+    let count = scion_proto::interfaces_count(path_type, path).map_err(of("interfaces"))?;
+    for index in 0..count {
+        let found = scion_proto::interface(path_type, path, index).map_err(of("interface"))?;
+        if !LISTED.contains(&found.id) {
+            return Err(Why::NotListed(found.id, found.hop_field));
+        }
     }
-    println!("time left: {} ms", time_left(packet.path_type, path, now)?);
-    let mut moved = path.to_vec();
-    println!("moved: hop field {}", single_move(packet.path_type, &mut moved)?.current_hop_field);
-    let mut reply = vec![0; moved.len()];
-    reverse_path(packet.path_type, &moved, &mut reply)?;
-    println!("reply's path: {} bytes", reply.len());
+    println!("interfaces: all {count} are listed");
     Ok(())
 }
 
-fn main() {
-    let arguments: Vec<String> = std::env::args().collect();
-    let now = arguments.get(1).and_then(|word| word.parse().ok()).expect("usage: station NOW FILE");
-    let bytes = std::fs::read(arguments.get(2).expect("usage: station NOW FILE")).expect("a file that can be read");
-    if let Err(refusal) = look(&bytes, now) {
-        println!("refused: {} ({})", refusal.number, refusal.value);
+/// The path must outlive the flight.
+fn check_time(path_type: u8, path: &[u8], now: u64) -> Result<(), Why> {
+    let left = scion_proto::time_left(path_type, path, now).map_err(of("time left"))?;
+    if left <= FLIGHT {
+        return Err(Why::TooLittleTime(left));
     }
+    println!("time left: {left} ms");
+    Ok(())
+}
+
+/// Whether a packet with this path has arrived: the hop pointer is at the last hop field.
+fn has_arrived(path: &Path) -> bool {
+    let hop_fields: usize = path.segment_lengths.iter().map(|&length| usize::from(length)).sum();
+    usize::from(path.current_hop_field) + 1 == hop_fields
+}
+
+/// The answer to a packet that has arrived: the same path back, from its destination to its source.
+fn reply_to(packet: &Packet, path: &[u8]) -> Result<Vec<u8>, Why> {
+    let mut reply_path = vec![0; path.len()];
+    scion_proto::reverse_path(packet.path_type, path, &mut reply_path).map_err(of("reply's path"))?;
+    let ends = Ends {
+        destination_ia: packet.source_ia,
+        destination: packet.source,
+        source_ia: packet.destination_ia,
+        source: packet.destination,
+    };
+    let headers = Headers::new(&ends, packet.path_type, path.len(), packet.next_header, PAYLOAD.len(), packet.flow_id);
+    let mut reply = vec![0; headers.length(path.len())];
+    scion_proto::write_headers(&headers, &reply_path, &mut reply).map_err(of("reply"))?;
+    reply.extend_from_slice(PAYLOAD);
+    Ok(reply)
+}
+
+/// What the station does with a packet.
+fn take(bytes: &mut [u8], now: u64) -> Result<(), Why> {
+    let packet = scion_proto::read_packet(bytes).map_err(of("packet"))?;
+    let path = &mut bytes[packet.path_part.start..][..packet.path_part.len];
+    println!("packet: {} bytes of path, {} bytes of payload", path.len(), packet.payload_part.len);
+    // An empty path stays inside one network: there is nothing to check and nothing to move.
+    if packet.path_type != PATH_EMPTY {
+        check_interfaces(packet.path_type, path)?;
+        check_time(packet.path_type, path, now)?;
+        if !has_arrived(&packet.path) {
+            let moved = scion_proto::single_move(packet.path_type, path).map_err(of("move"))?;
+            println!("moved on: info field {}, hop field {}", moved.current_info_field, moved.current_hop_field);
+            return Ok(());
+        }
+    }
+    print!("reply:");
+    for byte in reply_to(&packet, path)? {
+        print!(" {byte:02X}");
+    }
+    println!();
+    Ok(())
+}
+
+fn main() -> ExitCode {
+    let arguments: Vec<String> = std::env::args().skip(1).collect();
+    let [now, file] = arguments.as_slice() else {
+        eprintln!("usage: station NOW FILE, NOW in ms since 1970");
+        return ExitCode::from(2);
+    };
+    let Ok(now) = now.parse() else {
+        eprintln!("station: NOW is not a number");
+        return ExitCode::from(2);
+    };
+    let mut bytes = match std::fs::read(file) {
+        Ok(bytes) => bytes,
+        Err(error) => {
+            eprintln!("{file}: {error}");
+            return ExitCode::from(2);
+        }
+    };
+    match take(&mut bytes, now) {
+        Ok(()) => return ExitCode::SUCCESS,
+        Err(Why::Refused(what, refusal)) => println!("{what} refused: {refusal}"),
+        Err(Why::NotListed(id, hop_field)) => println!("interface {id} of hop field {hop_field} is not listed"),
+        Err(Why::TooLittleTime(left)) => println!("the path has {left} ms left, the flight takes {FLIGHT}"),
+    }
+    ExitCode::from(1)
 }

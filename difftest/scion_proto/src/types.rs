@@ -14,6 +14,18 @@ pub const HOST_IPV6: u8 = 3;
 /// The kind of a service.
 pub const HOST_SERVICE: u8 = 4;
 
+/// Info field flag: the packet goes in construction direction.
+pub const INFO_CONSTRUCTION_DIRECTION: u8 = 0x01;
+/// Info field flag: peering.
+pub const INFO_PEERING: u8 = 0x02;
+/// Hop field flag: the router by which the packet leaves is to look at it.
+pub const HOP_EGRESS_ALERT: u8 = 0x01;
+/// Hop field flag: the router by which the packet enters is to look at it.
+pub const HOP_INGRESS_ALERT: u8 = 0x02;
+
+/// The latest `now` that is taken, in ms since 1970.
+pub const MAX_NOW: u64 = 9_000_000_000_000;
+
 /// An answer: 0, or a refusal's number with its value.
 #[repr(C)]
 #[derive(Debug, Clone, Copy, PartialEq, Eq, Default)]
@@ -41,21 +53,26 @@ impl fmt::Display for Refusal {
             7 => "left-over path bytes",
             8 => "no such field or interface",
             9 => "destination not of the exact size",
-            10 => "a number too wide",
+            10 => "a number too wide for its field, or a time too late",
             11 => "payload too large",
             12 => "header too large",
             13 => "too many hop fields",
-            14 => "peering",
+            14 => "peering not on both of two segments",
             15 => "at the last hop field",
             _ => "unknown",
         };
-        write!(f, "refused with {} ({words}), value {}", self.number, self.value)
+        write!(f, "{}, {words}", self.number)?;
+        match self.number {
+            2 | 3 => write!(f, " ({})", self.value),
+            _ => Ok(()),
+        }
     }
 }
 
 impl std::error::Error for Refusal {}
 
-/// The record of a standard path; all zero for other types.
+/// The record of a standard path as the call leaves it; all zero for other types. A packet has arrived when
+/// `current_hop_field` is the last of all segments' hop fields.
 #[repr(C)]
 #[derive(Debug, Clone, Copy, PartialEq, Eq, Default)]
 pub struct Path {
@@ -115,7 +132,7 @@ pub struct PathRead {
     pub length: usize,
 }
 
-/// An info field and where it starts.
+/// An info field and where it starts in the path; `timestamp` in seconds since 1970.
 #[repr(C)]
 #[derive(Debug, Clone, Copy, PartialEq, Eq, Default)]
 pub struct InfoField {
