@@ -5,8 +5,9 @@
  * the interfaces by which the packet enters and leaves that network, until when they may be used, and a code (MAC) by which the
  * network's router knows its own hop field. Two pointers in the path say which info field and which hop field the packet has come to.
  *
- * Every call reads first and answers with a number: 0 is accepted, 1 to 15 are refusals, below. A refusal hands back zeros in
- * every other field (2 and 3 also their value) and changes no lent byte. Any type byte, index, size and contents will do.
+ * Every call on a packet or a path reads it first and answers with a number: 0 is accepted, 1 to 15 are refusals, below. A refusal
+ * hands back zeros in every other field (2 and 3 also their value) and changes no lent byte. Any type byte, index, size and contents
+ * will do.
  *
  * What is asked of the caller is memory, and nothing else:
  * - `bytes` points to `len` bytes that can be read, and written where it isn't const; so do `path` and `dst`. NULL with length 0
@@ -68,7 +69,8 @@ enum {
     SCION_SERVICE_NONE = 0xFFFF
 };
 
-/* Bits of `flags`: of an info field, and of a hop field. */
+/* Bits of `flags`: of an info field, and of a hop field. Alerts, like cons_ingress and cons_egress, are named as in construction
+ * direction. */
 enum { SCION_INFO_CONSTRUCTION_DIRECTION = 0x01, SCION_INFO_PEERING = 0x02 };
 enum { SCION_HOP_EGRESS_ALERT = 0x01, SCION_HOP_INGRESS_ALERT = 0x02 };
 
@@ -245,7 +247,7 @@ ScionInterface scion_interface(uint8_t path_type, const uint8_t *bytes, size_t l
 
 /* Changes to a path in place. An alert flag of hop field `index` is set or cleared. A move takes the path one hop field on as the
  * routers in between do; 15 where the packet has arrived. A walk makes moves until the packet has arrived, or `limit` of them. Both
- * answer 13 and 14 for paths that routers don't take. */
+ * answer 13 and 14 where these hold. */
 ScionPathAnswer scion_set_ingress_router_alert(uint8_t path_type, uint8_t *bytes, size_t len, size_t index, bool on);
 ScionPathAnswer scion_set_egress_router_alert(uint8_t path_type, uint8_t *bytes, size_t len, size_t index, bool on);
 ScionPathAnswer scion_move(uint8_t path_type, uint8_t *bytes, size_t len);
@@ -258,8 +260,8 @@ ScionPathAnswer scion_copy_path(uint8_t path_type, const uint8_t *bytes, size_t 
 ScionPathAnswer scion_reverse_path(uint8_t path_type, const uint8_t *bytes, size_t len, uint8_t *dst, size_t dst_len);
 
 /* Writing: the headers of a path of `path_len` bytes with version, traffic class and reserved 0 and the factor that follows from
- * the lengths; how many bytes they take with a path, at most 1,020 where they can be written, SIZE_MAX where no number can say it;
- * and the bytes themselves, path included, into a destination of that size. flow_id has 20 bits. A path of type 0 adds no bytes;
+ * the lengths; how many bytes they take with a path, SIZE_MAX where no number can say it (with the factor that follows from the
+ * lengths, more than 1,023 bytes get 12); and the bytes themselves, path included, into a destination of that size. flow_id has 20 bits. A path of type 0 adds no bytes;
  * the bytes of any other are written as given, unread. path and dst must not overlap. */
 ScionHeaders scion_new_headers(uint64_t destination_ia, ScionHost destination, uint64_t source_ia, ScionHost source,
                                uint8_t path_type, size_t path_len, uint8_t next_header, size_t payload_length, uint32_t flow_id);

@@ -18,9 +18,9 @@ pub const HOST_SERVICE: u8 = 4;
 pub const INFO_CONSTRUCTION_DIRECTION: u8 = 0x01;
 /// Info field flag: peering.
 pub const INFO_PEERING: u8 = 0x02;
-/// Hop field flag: the router by which the packet leaves is to look at it.
+/// Hop field flag: router alert at the egress, as named in construction direction.
 pub const HOP_EGRESS_ALERT: u8 = 0x01;
-/// Hop field flag: the router by which the packet enters is to look at it.
+/// Hop field flag: router alert at the ingress, as named in construction direction.
 pub const HOP_INGRESS_ALERT: u8 = 0x02;
 
 /// The latest `now` that is taken, in ms since 1970.
