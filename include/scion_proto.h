@@ -260,9 +260,9 @@ ScionPathAnswer scion_copy_path(uint8_t path_type, const uint8_t *bytes, size_t 
 ScionPathAnswer scion_reverse_path(uint8_t path_type, const uint8_t *bytes, size_t len, uint8_t *dst, size_t dst_len);
 
 /* Writing: the headers of a path of `path_len` bytes with version, traffic class and reserved 0 and the factor that follows from
- * the lengths; how many bytes they take with a path, SIZE_MAX where no number can say it (with the factor that follows from the
- * lengths, more than 1,023 bytes get 12); and the bytes themselves, path included, into a destination of that size. flow_id has 20 bits. A path of type 0 adds no bytes;
- * the bytes of any other are written as given, unread. path and dst must not overlap. */
+ * the lengths; how many bytes they take with a path, SIZE_MAX where no number can say it; and the bytes themselves, path included,
+ * into a destination of that size. With the factor that follows from the lengths, more than 1,023 bytes get 12. flow_id has 20 bits.
+ * A path of type 0 adds no bytes; the bytes of any other are written as given, unread. path and dst must not overlap. */
 ScionHeaders scion_new_headers(uint64_t destination_ia, ScionHost destination, uint64_t source_ia, ScionHost source,
                                uint8_t path_type, size_t path_len, uint8_t next_header, size_t payload_length, uint32_t flow_id);
 size_t scion_headers_length(ScionHeaders headers, size_t path_len);
