@@ -8,16 +8,24 @@ mod packets;
 mod paths;
 mod runs;
 
-/// The words of a line, and the answer that is made of them.
+use crate::tally::{Exception, Source, Tally};
+
+/// The words of a line, the answer that is made of them, and whose answer that is.
 pub struct Line<'a> {
     words: Vec<&'a str>,
     answer: String,
+    source: Source,
 }
 
 impl<'a> Line<'a> {
     /// Splits a line.
     fn new(line: &'a str) -> Self {
-        Self { words: line.split(' ').collect(), answer: String::new() }
+        Self { words: line.split(' ').collect(), answer: String::new(), source: Source::Rust }
+    }
+
+    /// Says that the answer falls under an exception.
+    fn except(&mut self, exception: Exception) {
+        self.source = Source::Excepted(exception);
     }
 
     /// Word `k` as a number; 0 where there is none.
@@ -75,36 +83,49 @@ pub fn parse_bytes(word: &str) -> Vec<u8> {
     bytes
 }
 
-/// The Rust's answer to a call, as text; none where it is no call or one that the Rust can't be asked.
-pub fn answer(text: &str) -> Option<String> {
+/// The answer to a call, as text, and whose it is; none where it is no call or one that the Rust can't be asked.
+pub fn answer(text: &str) -> Option<(String, Source)> {
     let mut line = Line::new(text);
-    let is_known = paths::answer(&mut line)
-        || fields::answer(&mut line)
-        || packets::answer(&mut line)
-        || runs::answer(&mut line);
-    is_known.then_some(line.answer)
+    let is_known =
+        paths::answer(&mut line) || fields::answer(&mut line) || packets::answer(&mut line) || runs::answer(&mut line);
+    is_known.then_some((line.answer, line.source))
 }
 
-/// Compares the answers in a file of lines with the Rust's: how many agree, differ, and can't be asked.
+/// The stored answers that were compared.
+#[derive(Default)]
+pub struct Replayed {
+    pub by_rust: usize,
+    pub by_model: usize,
+    pub differed: usize,
+    pub unasked: usize,
+    /// The exceptions among them, by name.
+    pub tally: Tally,
+}
+
+/// Compares the answers in a file of lines with the Rust's, or with document 01's where the Rust has none.
 /// A line with the answer `?` is no call.
-pub fn replay(text: &str) -> (usize, usize, usize) {
-    let (mut same, mut other, mut unasked) = (0, 0, 0);
+pub fn replay(text: &str, replayed: &mut Replayed) {
     for line in text.lines() {
         let Some((call, stored)) = line.split_once(" =>") else { continue };
         if stored == " ?" {
             continue;
         }
-        match answer(call) {
-            Some(answer) if answer == stored => same += 1,
-            Some(answer) => {
-                other += 1;
-                println!("DIFFERS {call}\n    stored  {stored}\n    by Rust {answer}");
-            }
-            None => {
-                unasked += 1;
-                println!("not asked: {line}");
-            }
+        let Some((answer, source)) = answer(call) else {
+            replayed.unasked += 1;
+            println!("not asked: {line}");
+            continue;
+        };
+        if source.is_rust() {
+            replayed.by_rust += 1;
+        } else {
+            replayed.by_model += 1;
+        }
+        if let Source::Excepted(exception) = source {
+            replayed.tally.except(exception);
+        }
+        if answer != stored {
+            replayed.differed += 1;
+            println!("DIFFERS {call}\n    stored   {stored}\n    expected {answer}");
         }
     }
-    (same, other, unasked)
 }
