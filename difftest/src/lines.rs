@@ -91,6 +91,32 @@ pub fn answer(text: &str) -> Option<(String, Source)> {
     is_known.then_some((line.answer, line.source))
 }
 
+/// What a line with a stored answer turns out to be.
+pub enum Verdict {
+    /// No call, or one that is none of the program's (`?`).
+    NoCall,
+    /// One that the Rust can't be asked.
+    Unasked,
+    Same(Source),
+    Differs {
+        source: Source,
+        expected: String,
+    },
+}
+
+/// Compares the answer stored in a line with the Rust's, or with document 01's where the Rust has none.
+pub fn verdict(line: &str) -> Verdict {
+    let Some((call, stored)) = line.split_once(" =>") else { return Verdict::NoCall };
+    if stored == " ?" {
+        return Verdict::NoCall;
+    }
+    match answer(call) {
+        None => Verdict::Unasked,
+        Some((expected, source)) if expected == stored => Verdict::Same(source),
+        Some((expected, source)) => Verdict::Differs { source, expected },
+    }
+}
+
 /// The stored answers that were compared.
 #[derive(Default)]
 pub struct Replayed {
@@ -102,30 +128,35 @@ pub struct Replayed {
     pub tally: Tally,
 }
 
-/// Compares the answers in a file of lines with the Rust's, or with document 01's where the Rust has none.
-/// A line with the answer `?` is no call.
-pub fn replay(text: &str, replayed: &mut Replayed) {
-    for line in text.lines() {
-        let Some((call, stored)) = line.split_once(" =>") else { continue };
-        if stored == " ?" {
-            continue;
-        }
-        let Some((answer, source)) = answer(call) else {
-            replayed.unasked += 1;
-            println!("not asked: {line}");
-            continue;
-        };
+impl Replayed {
+    /// Counts an answer by whose it is to be.
+    fn count(&mut self, source: Source) {
         if source.is_rust() {
-            replayed.by_rust += 1;
+            self.by_rust += 1;
         } else {
-            replayed.by_model += 1;
+            self.by_model += 1;
         }
         if let Source::Excepted(exception) = source {
-            replayed.tally.except(exception);
+            self.tally.except(exception);
         }
-        if answer != stored {
-            replayed.differed += 1;
-            println!("DIFFERS {call}\n    stored   {stored}\n    expected {answer}");
+    }
+}
+
+/// Compares the answers in a file of lines.
+pub fn replay(text: &str, replayed: &mut Replayed) {
+    for line in text.lines() {
+        match verdict(line) {
+            Verdict::NoCall => {}
+            Verdict::Unasked => {
+                replayed.unasked += 1;
+                println!("not asked: {line}");
+            }
+            Verdict::Same(source) => replayed.count(source),
+            Verdict::Differs { source, expected } => {
+                replayed.count(source);
+                replayed.differed += 1;
+                println!("DIFFERS {line}\n    expected {expected}");
+            }
         }
     }
 }

@@ -632,12 +632,10 @@ fn store(folder: &Path, subject: Subject) -> (usize, usize) {
     (files.len(), subject.lines.iter().filter(|line| !line.starts_with('#')).count())
 }
 
-/// Writes the whole list to a folder.
-pub fn run(folder: &str) -> bool {
+/// The whole list, by subject.
+fn subjects() -> Vec<Subject> {
     let mut random = Random::new(2026);
-    let folder = Path::new(folder);
-    fs::create_dir_all(folder).expect("a folder");
-    let subjects = [
+    vec![
         meta(&mut random),
         fields(&mut random),
         paths(&mut random),
@@ -646,8 +644,19 @@ pub fn run(folder: &str) -> bool {
         headers(&mut random),
         writing(&mut random),
         runs(&mut random),
-    ];
-    for subject in subjects {
+    ]
+}
+
+/// Every line of the list.
+pub fn all_lines() -> Vec<String> {
+    subjects().into_iter().flat_map(|subject| subject.lines).collect()
+}
+
+/// Writes the whole list to a folder.
+pub fn run(folder: &str) -> bool {
+    let folder = Path::new(folder);
+    fs::create_dir_all(folder).expect("a folder");
+    for subject in subjects() {
         let name = subject.name;
         let (files, lines) = store(folder, subject);
         println!("list: {name}: {lines} calls in {files} files");

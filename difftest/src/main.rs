@@ -10,6 +10,7 @@ mod model;
 mod oracle;
 mod packets;
 mod paths;
+mod plain;
 mod plant;
 mod random;
 mod results;
