@@ -146,7 +146,7 @@ fn replay() -> bool {
     for file in std::env::args().skip(2) {
         lines::replay(&std::fs::read_to_string(&file).expect("a file of lines"), &mut replayed);
     }
-    print!("{}", replayed.tally.exceptions_table());
+    println!("exceptions\n{}", replayed.tally.exceptions_table());
     println!(
         "{}: stored answers: {} ({} by the Rust, {} by document 01's model), {} differed, {} under exceptions; {} can't be asked",
         profile(),

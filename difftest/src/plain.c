@@ -33,68 +33,66 @@ static void put64(uint8_t *at, uint64_t number) {
     put32(at + 4, (uint32_t)number);
 }
 
-/* A standard path that was read: its record, its fields, its length. */
-typedef struct {
-    uint8_t number;
-    ScionPath record;
-    size_t info_fields;
-    size_t hop_fields;
-    size_t length;
-} Standard;
-
-static Standard refused_path(uint8_t number) {
-    return (Standard){.number = number};
+static size_t info_fields_of(ScionPath path) {
+    return 1u + (path.segment_lengths[1] != 0) + (path.segment_lengths[2] != 0);
 }
 
-/* Reads a standard path: lengths, info pointer, hop pointer, bytes. */
-static Standard read_standard(const uint8_t *bytes, size_t len) {
-    if (len < META) {
-        return refused_path(SCION_CUT_SHORT);
-    }
+static size_t hop_fields_of(ScionPath path) {
+    return (size_t)path.segment_lengths[0] + path.segment_lengths[1] + path.segment_lengths[2];
+}
+
+/* The record in a meta header, unchecked. */
+static inline ScionPath record_of(const uint8_t *bytes) {
     uint32_t word = get32(bytes);
-    uint8_t info = (uint8_t)(word >> 30), hop = word >> 24 & 63;
-    uint8_t s0 = word >> 12 & 63, s1 = word >> 6 & 63, s2 = word & 63;
+    return (ScionPath){word >> 30, word >> 24 & 63, word >> 18 & 63, {word >> 12 & 63, word >> 6 & 63, word & 63}};
+}
+
+/* What reading a standard path answers: lengths, info pointer, hop pointer, bytes. */
+static inline uint8_t check_standard(ScionPath path, size_t len) {
+    unsigned s0 = path.segment_lengths[0], s1 = path.segment_lengths[1], s2 = path.segment_lengths[2];
+    unsigned hop = path.current_hop_field;
     if (s0 == 0 || (s1 == 0 && s2 != 0)) {
-        return refused_path(SCION_SEGMENT_LENGTHS);
+        return SCION_SEGMENT_LENGTHS;
     }
-    size_t info_fields = 1u + (s1 != 0) + (s2 != 0);
-    if (info >= info_fields) {
-        return refused_path(SCION_INFO_POINTER);
+    if (path.current_info_field >= info_fields_of(path)) {
+        return SCION_INFO_POINTER;
     }
-    unsigned hop_fields = (unsigned)s0 + s1 + s2;
-    if (hop >= hop_fields || info != (hop >= s0) + (hop >= s0 + s1)) {
-        return refused_path(SCION_HOP_POINTER);
+    if (hop >= s0 + s1 + s2 || path.current_info_field != (hop >= s0) + (hop >= s0 + s1)) {
+        return SCION_HOP_POINTER;
     }
-    size_t length = META + INFO_FIELD * info_fields + HOP_FIELD * (size_t)hop_fields;
-    if (len < length) {
-        return refused_path(SCION_CUT_SHORT);
-    }
-    ScionPath record = {info, hop, word >> 18 & 63, {s0, s1, s2}};
-    return (Standard){SCION_ACCEPTED, record, info_fields, hop_fields, length};
+    return len < META + INFO_FIELD * info_fields_of(path) + HOP_FIELD * hop_fields_of(path) ? SCION_CUT_SHORT : SCION_ACCEPTED;
 }
 
 ScionPathRead plain_read_path(uint8_t path_type, const uint8_t *bytes, size_t len) {
     if (path_type != SCION_PATH_STANDARD) {
         return (ScionPathRead){.length = path_type == SCION_PATH_EMPTY ? 0 : len};
     }
-    Standard path = read_standard(bytes, len);
-    return (ScionPathRead){{path.number, 0}, path.record, path.length};
+    if (len < META) {
+        return (ScionPathRead){.answer.number = SCION_CUT_SHORT};
+    }
+    ScionPath path = record_of(bytes);
+    uint8_t number = check_standard(path, len);
+    if (number != SCION_ACCEPTED) {
+        return (ScionPathRead){.answer.number = number};
+    }
+    return (ScionPathRead){.path = path, .length = META + INFO_FIELD * info_fields_of(path) + HOP_FIELD * hop_fields_of(path)};
 }
 
 ScionExpiry plain_expiry(uint8_t path_type, const uint8_t *bytes, size_t len) {
     if (path_type != SCION_PATH_STANDARD) {
         return (ScionExpiry){.answer.number = SCION_NO_SUCH_FIELD};
     }
-    Standard path = read_standard(bytes, len);
-    if (path.number != SCION_ACCEPTED) {
-        return (ScionExpiry){.answer.number = path.number};
+    ScionPathRead read = plain_read_path(path_type, bytes, len);
+    if (read.answer.number != SCION_ACCEPTED) {
+        return (ScionExpiry){.answer = read.answer};
     }
+    size_t info_fields = info_fields_of(read.path);
     const uint8_t *info_field = bytes + META;
-    const uint8_t *hop_field = info_field + INFO_FIELD * path.info_fields;
+    const uint8_t *hop_field = info_field + INFO_FIELD * info_fields;
     uint64_t least = UINT64_MAX;
-    for (size_t k = 0; k < path.info_fields; k++) {
+    for (size_t k = 0; k < info_fields; k++) {
         uint8_t least_byte = UINT8_MAX;
-        for (size_t h = 0; h < path.record.segment_lengths[k]; h++) {
+        for (size_t h = 0; h < read.path.segment_lengths[k]; h++) {
             if (hop_field[1] < least_byte) {
                 least_byte = hop_field[1];
             }
@@ -106,16 +104,20 @@ ScionExpiry plain_expiry(uint8_t path_type, const uint8_t *bytes, size_t len) {
         }
         info_field += INFO_FIELD;
     }
-    return (ScionExpiry){{SCION_ACCEPTED, 0}, path.record, least};
+    return (ScionExpiry){.path = read.path, .ms = least};
 }
 
 /* The record of a path turned: at its start, its lengths in the other order. */
-static ScionPath turned_record(ScionPath record, size_t info_fields) {
-    ScionPath turned = {0};
-    for (size_t k = 0; k < info_fields; k++) {
-        turned.segment_lengths[k] = record.segment_lengths[info_fields - 1 - k];
+static ScionPath turned_record(ScionPath path, size_t info_fields) {
+    uint8_t s0 = path.segment_lengths[0], s1 = path.segment_lengths[1], s2 = path.segment_lengths[2];
+    switch (info_fields) {
+    case 1:
+        return (ScionPath){.segment_lengths = {s0, 0, 0}};
+    case 2:
+        return (ScionPath){.segment_lengths = {s1, s0, 0}};
+    default:
+        return (ScionPath){.segment_lengths = {s2, s1, s0}};
     }
-    return turned;
 }
 
 ScionPathAnswer plain_reverse_path(uint8_t path_type, const uint8_t *bytes, size_t len, uint8_t *dst, size_t dst_len) {
@@ -129,28 +131,30 @@ ScionPathAnswer plain_reverse_path(uint8_t path_type, const uint8_t *bytes, size
         memcpy(dst, bytes, len);
         return (ScionPathAnswer){0};
     }
-    Standard path = read_standard(bytes, len);
-    if (path.number != SCION_ACCEPTED) {
-        return (ScionPathAnswer){.answer.number = path.number};
+    ScionPathRead read = plain_read_path(path_type, bytes, len);
+    if (read.answer.number != SCION_ACCEPTED) {
+        return (ScionPathAnswer){.answer = read.answer};
     }
-    if (dst_len != path.length) {
+    if (dst_len != read.length) {
         return (ScionPathAnswer){.answer.number = SCION_DESTINATION_SIZE};
     }
-    ScionPath turned = turned_record(path.record, path.info_fields);
+    size_t info_fields = info_fields_of(read.path), hop_fields = hop_fields_of(read.path);
+    ScionPath turned = turned_record(read.path, info_fields);
     const uint8_t *lengths = turned.segment_lengths;
     put32(dst, (uint32_t)lengths[0] << 12 | (uint32_t)lengths[1] << 6 | lengths[2]);
     dst += META;
-    for (size_t k = path.info_fields; k > 0; k--) {
+    for (size_t k = info_fields; k > 0; k--) {
         memcpy(dst, bytes + META + INFO_FIELD * (k - 1), INFO_FIELD);
         dst[0] ^= 1;
         dst += INFO_FIELD;
     }
-    const uint8_t *hop_fields = bytes + META + INFO_FIELD * path.info_fields;
-    for (size_t h = path.hop_fields; h > 0; h--) {
-        memcpy(dst, hop_fields + HOP_FIELD * (h - 1), HOP_FIELD);
+    const uint8_t *hop_field = bytes + read.length;
+    for (size_t h = 0; h < hop_fields; h++) {
+        hop_field -= HOP_FIELD;
+        memcpy(dst, hop_field, HOP_FIELD);
         dst += HOP_FIELD;
     }
-    return (ScionPathAnswer){{SCION_ACCEPTED, 0}, turned};
+    return (ScionPathAnswer){.path = turned};
 }
 
 static size_t host_length(uint8_t kind) {
