@@ -1,4 +1,5 @@
-//! Times of both sides in one process on the same inputs: medians over batches, ratios, and cost against hop fields.
+//! Times of the Rust, of plain C and of the library in one process on the same inputs: medians over batches, ratios, and cost
+//! against hop fields.
 
 use std::hint::black_box;
 
@@ -10,6 +11,7 @@ use scion_rs::path::{DataplanePath, Path, PathType};
 use scion_rs::wire_encoding::{WireDecode, WireDecodeWithContext, WireEncode};
 
 use crate::model::Shape;
+use crate::plain;
 use crate::random::Random;
 use crate::shapes::{self, Lengths, PacketParts, Pointers};
 
@@ -23,13 +25,27 @@ const BATCH_NS: f64 = 1_000_000.0;
 /// Runs a call so many times.
 type Loop = Box<dyn FnMut(usize)>;
 
-/// One call on inputs of one shape, on both sides; the Rust has no moves.
+/// One call on inputs of one shape, on each side.
 struct Row {
     call: &'static str,
     size: String,
     hop_fields: usize,
+    loops: Loops,
+}
+
+/// The loops of a call; the Rust has no moves, and they are not written in plain C.
+struct Loops {
     rust: Option<Loop>,
+    plain: Option<Loop>,
     ours: Loop,
+}
+
+/// What was measured of a call: ns, or none where a side lacks it.
+#[derive(Clone, Copy)]
+struct Found {
+    rust: Option<f64>,
+    plain: Option<f64>,
+    ours: f64,
 }
 
 /// Inputs of one shape: paths, and packets that hold them.
@@ -85,59 +101,76 @@ fn over<T: 'static>(inputs: Vec<T>, mut call: impl FnMut(&T) + 'static) -> Loop 
 }
 
 /// Packets split.
-fn packet_row(inputs: &Inputs) -> (Option<Loop>, Loop) {
+fn packet_row(inputs: &Inputs) -> Loops {
     let rust = over(kept(&inputs.packets), |bytes| {
         let mut bytes = bytes.clone();
         black_box(ScionPacketRaw::decode(&mut bytes)).expect("a packet that is read");
     });
+    let plain = over(inputs.packets.clone(), |bytes| {
+        black_box(plain::read_packet(bytes));
+    });
     let ours = over(inputs.packets.clone(), |bytes| {
         black_box(calls::read_packet(bytes));
     });
-    (Some(rust), ours)
+    Loops { rust: Some(rust), plain: Some(plain), ours }
 }
 
 /// Paths read.
-fn path_row(inputs: &Inputs) -> (Option<Loop>, Loop) {
+fn path_row(inputs: &Inputs) -> Loops {
     let rust = over(kept(&inputs.paths), |bytes| {
         black_box(rust_path(bytes));
+    });
+    let plain = over(inputs.paths.clone(), |bytes| {
+        black_box(plain::read_path(1, bytes));
     });
     let ours = over(inputs.paths.clone(), |bytes| {
         black_box(calls::read_path(1, bytes));
     });
-    (Some(rust), ours)
+    Loops { rust: Some(rust), plain: Some(plain), ours }
 }
 
 /// Paths read and their expiry computed.
-fn expiry_row(inputs: &Inputs) -> (Option<Loop>, Loop) {
+fn expiry_row(inputs: &Inputs) -> Loops {
     let rust = over(kept(&inputs.paths), |bytes| {
         if let DataplanePath::Standard(path) = rust_path(bytes) {
             black_box(path.expiry_time());
         }
     });
+    let plain = over(inputs.paths.clone(), |bytes| {
+        black_box(plain::expiry(1, bytes));
+    });
     let ours = over(inputs.paths.clone(), |bytes| {
         black_box(calls::expiry(1, bytes));
     });
-    (Some(rust), ours)
+    Loops { rust: Some(rust), plain: Some(plain), ours }
 }
 
 /// Paths read and turned.
-fn turn_row(inputs: &Inputs) -> (Option<Loop>, Loop) {
-    let mut room = vec![0; inputs.shape.bytes()];
-    let mut other = room.clone();
+fn turn_row(inputs: &Inputs) -> Loops {
+    let rooms = [(); 3].map(|()| vec![0; inputs.shape.bytes()]);
+    let [mut rust_room, mut plain_room, mut room] = rooms;
     let rust = over(kept(&inputs.paths), move |bytes| {
-        black_box(rust_path(bytes).reverse_to_slice(black_box(&mut room)));
+        black_box(rust_path(bytes).reverse_to_slice(black_box(&mut rust_room)));
+    });
+    let plain = over(inputs.paths.clone(), move |bytes| {
+        black_box(plain::reverse_path(1, bytes, black_box(&mut plain_room)));
     });
     let ours = over(inputs.paths.clone(), move |bytes| {
-        black_box(calls::reverse_path(1, bytes, black_box(&mut other)));
+        black_box(calls::reverse_path(1, bytes, black_box(&mut room)));
     });
-    (Some(rust), ours)
+    Loops { rust: Some(rust), plain: Some(plain), ours }
+}
+
+/// The ends of the headers that are written: IPv4 hosts.
+pub fn ends() -> Ends {
+    shapes::ends(&mut Random::new(79), 0, 0)
 }
 
 /// Headers made for a path and written.
-fn write_row(inputs: &Inputs) -> (Option<Loop>, Loop) {
-    let ends = shapes::ends(&mut Random::new(79), 0, 0);
-    let mut room = vec![0; 36 + inputs.shape.bytes()];
-    let mut other = room.clone();
+fn write_row(inputs: &Inputs) -> Loops {
+    let ends = ends();
+    let rooms = [(); 3].map(|()| vec![0; 36 + inputs.shape.bytes()]);
+    let [mut rust_room, mut plain_room, mut room] = rooms;
     let address = |ia: u64, bytes: [u8; 16]| {
         let [a, b, c, d, ..] = bytes;
         ScionAddr::new(IsdAsn(ia), HostAddr::V4([a, b, c, d].into()))
@@ -152,41 +185,41 @@ fn write_row(inputs: &Inputs) -> (Option<Loop>, Loop) {
         .collect();
     let rust = over(paths, move |path| {
         let headers = ScionHeaders::new(black_box(&endhosts), path, 17, 64, FlowId::default()).expect("headers");
-        black_box(headers.encode_to(&mut black_box(&mut room[..]))).expect("room");
+        black_box(headers.encode_to(&mut black_box(&mut rust_room[..]))).expect("room");
     });
-    let ours = over(inputs.paths.clone(), move |bytes| write_ours(black_box(&ends), bytes, &mut other));
-    (Some(rust), ours)
-}
-
-/// The library making and writing headers, in one call.
-fn write_ours(ends: &Ends, path: &[u8], room: &mut [u8]) {
-    black_box(calls::write_new_headers(ends, 1, 17, 64, 1, path, black_box(room)));
+    let plain = over(inputs.paths.clone(), move |bytes| {
+        black_box(plain::write_new_headers(black_box(&ends), 1, 17, 64, 1, bytes, black_box(&mut plain_room)));
+    });
+    let ours = over(inputs.paths.clone(), move |bytes| {
+        black_box(calls::write_new_headers(black_box(&ends), 1, 17, 64, 1, bytes, black_box(&mut room)));
+    });
+    Loops { rust: Some(rust), plain: Some(plain), ours }
 }
 
 /// A single move from the start, the changed bytes put back before it.
-fn move_row(inputs: &Inputs) -> (Option<Loop>, Loop) {
+fn move_row(inputs: &Inputs) -> Loops {
     let mut room = inputs.paths[0].clone();
     let head = 4 + 8 * inputs.shape.info_fields;
     let ours = over(inputs.paths.clone(), move |bytes| {
         room[..head].copy_from_slice(&bytes[..head]);
         black_box(calls::single_move(1, black_box(&mut room)));
     });
-    (None, ours)
+    Loops { rust: None, plain: None, ours }
 }
 
 /// A walk from the start to the last hop field, the changed bytes put back before it.
-fn walk_row(inputs: &Inputs) -> (Option<Loop>, Loop) {
+fn walk_row(inputs: &Inputs) -> Loops {
     let mut room = inputs.paths[0].clone();
     let head = 4 + 8 * inputs.shape.info_fields;
     let ours = over(inputs.paths.clone(), move |bytes| {
         room[..head].copy_from_slice(&bytes[..head]);
         black_box(calls::walk(1, black_box(&mut room), usize::MAX));
     });
-    (None, ours)
+    Loops { rust: None, plain: None, ours }
 }
 
-/// What makes the two loops of a row.
-type Maker = fn(&Inputs) -> (Option<Loop>, Loop);
+/// What makes the loops of a row.
+type Maker = fn(&Inputs) -> Loops;
 
 /// The calls.
 const CALLS: [(&str, Maker); 7] = [
@@ -219,11 +252,16 @@ fn rows() -> Vec<Row> {
             if (is_move && hop_fields > 64) || is_last {
                 continue;
             }
-            let (rust, ours) = make(&inputs);
-            rows.push(Row { call, size: String::from(size), hop_fields, rust, ours });
+            rows.push(Row { call, size: String::from(size), hop_fields, loops: make(&inputs) });
         }
     }
     rows
+}
+
+/// The packets and the paths that are timed, by shape.
+pub fn timed() -> Vec<(Vec<Vec<u8>>, Vec<Vec<u8>>)> {
+    let inputs = SIZES.map(|(_, lengths, kinds)| Inputs::new(lengths, kinds));
+    inputs.into_iter().map(|inputs| (inputs.packets, inputs.paths)).collect()
 }
 
 /// A time as the system tells it.
@@ -267,18 +305,24 @@ fn median(mut numbers: Vec<f64>) -> f64 {
     numbers[numbers.len() / 2]
 }
 
-/// The medians of a row: the Rust's where there is one, and the library's. Batches of the two take turns.
-fn measure(row: &mut Row) -> (Option<f64>, f64) {
-    let rust_times = row.rust.as_mut().map(times_for);
-    let ours_times = times_for(&mut row.ours);
-    let (mut rust, mut ours) = (Vec::new(), Vec::new());
+/// A loop, how many calls make a batch of it, and the times of its batches.
+struct Timed<'a> {
+    run: &'a mut Loop,
+    times: usize,
+    found: Vec<f64>,
+}
+
+/// The medians of a row, of each side that there is. Batches of the sides take turns.
+fn measure(loops: &mut Loops) -> Found {
+    let sides = [loops.rust.as_mut(), loops.plain.as_mut(), Some(&mut loops.ours)];
+    let mut sides = sides.map(|run| run.map(|run| Timed { times: times_for(run), run, found: Vec::new() }));
     for _ in 0..BATCHES {
-        if let (Some(run), Some(times)) = (&mut row.rust, rust_times) {
-            rust.push(batch(run, times));
+        for side in sides.iter_mut().flatten() {
+            side.found.push(batch(side.run, side.times));
         }
-        ours.push(batch(&mut row.ours, ours_times));
     }
-    ((!rust.is_empty()).then(|| median(rust)), median(ours))
+    let [rust, plain, ours] = sides.map(|side| side.map(|side| median(side.found)));
+    Found { rust, plain, ours: ours.expect("the library's times") }
 }
 
 /// A cell: a number, or a dash.
@@ -286,58 +330,91 @@ fn cell(number: Option<f64>, digits: usize) -> String {
     number.map_or(String::from("–"), |number| format!("{number:.digits$}"))
 }
 
+/// Holds plain C to the library; whether it answers the same.
+fn hold_plain() -> bool {
+    let held = plain::held(None);
+    match &held.differed {
+        Some(difference) => println!("plain C is not timed, for it differs: {difference}"),
+        None => println!("Plain C answered as the library on {} calls before it was timed.\n", held.compared),
+    }
+    held.differed.is_none()
+}
+
 /// Times every row and prints the tables.
 pub fn run() -> bool {
+    if !hold_plain() {
+        return false;
+    }
     println!(
         "Medians of {BATCHES} batches, processor time; each call reads its input first, the Rust's from byte strings"
     );
     println!(
         "that are not counted. A path decode of 1 hop field is nearly the meta header alone. The Rust's expiry goes"
     );
-    println!("through the packaged time library. The Rust has no moves.\n");
-    println!("| call | input | Rust, ns | library, ns | library / Rust |");
-    println!("|---|---|---:|---:|---:|");
-    let mut found: Vec<(&str, usize, Option<f64>, f64)> = Vec::new();
+    println!("through the packaged time library. The Rust has no moves, and they are not written in plain C.\n");
+    println!("| call | input | Rust, ns | plain C, ns | library, ns | library / Rust | library / plain C |");
+    println!("|---|---|---:|---:|---:|---:|---:|");
+    let mut all: Vec<(&str, usize, Found)> = Vec::new();
     for mut row in rows() {
-        let (rust, ours) = measure(&mut row);
-        let ratio = cell(rust.map(|rust| ours / rust), 2);
-        println!("| {} | {} | {} | {ours:.1} | {ratio} |", row.call, row.size, cell(rust, 1));
-        found.push((row.call, row.hop_fields, rust, ours));
+        let found = measure(&mut row.loops);
+        let ratio = |other: Option<f64>| cell(other.map(|other| found.ours / other), 2);
+        println!(
+            "| {} | {} | {} | {} | {:.1} | {} | {} |",
+            row.call,
+            row.size,
+            cell(found.rust, 1),
+            cell(found.plain, 1),
+            found.ours,
+            ratio(found.rust),
+            ratio(found.plain)
+        );
+        all.push((row.call, row.hop_fields, found));
     }
     println!();
     println!("Cost of one more hop field, from 1 (moves: 10) to 64 hop fields:\n");
-    println!("| call | Rust, ns | library, ns |");
-    println!("|---|---:|---:|");
+    println!("| call | Rust, ns | plain C, ns | library, ns |");
+    println!("|---|---:|---:|---:|");
     for (call, _) in CALLS {
-        slope(call, &found);
+        slope(call, &all);
     }
     true
 }
 
 /// Prints what a hop field costs in a call.
-fn slope(call: &str, found: &[(&str, usize, Option<f64>, f64)]) {
-    let of: Vec<_> = found.iter().filter(|row| row.0 == call && row.1 <= 64).collect();
+fn slope(call: &str, all: &[(&str, usize, Found)]) {
+    let of: Vec<_> = all.iter().filter(|row| row.0 == call && row.1 <= 64).collect();
     let (Some(first), Some(last)) = (of.first(), of.last()) else { return };
-    let more = (last.1 - first.1) as f64;
-    let rust = last.2.zip(first.2).map(|(last, first)| (last - first) / more);
-    println!("| {call} | {} | {:.2} |", cell(rust, 2), (last.3 - first.3) / more);
+    let each = |of: fn(&Found) -> Option<f64>| {
+        let difference = of(&last.2).zip(of(&first.2)).map(|(last, first)| last - first);
+        cell(difference.map(|difference| difference / (last.1 - first.1) as f64), 2)
+    };
+    println!(
+        "| {call} | {} | {} | {} |",
+        each(|found| found.rust),
+        each(|found| found.plain),
+        each(|found| Some(found.ours))
+    );
 }
 
-/// Prints the rows that can be counted: index, call, input, and whether the Rust has it.
+/// Prints the rows that can be counted: index, call, input, and which sides have it.
 pub fn names() -> bool {
     for (index, row) in rows().iter().enumerate() {
-        println!("{index}|{}|{}|{}", row.call, row.size, u8::from(row.rust.is_some()));
+        let sides = [("rust", row.loops.rust.is_some()), ("plain", row.loops.plain.is_some()), ("library", true)];
+        let sides: Vec<&str> = sides.into_iter().filter(|side| side.1).map(|side| side.0).collect();
+        println!("{index}|{}|{}|{}", row.call, row.size, sides.join(" "));
     }
     true
 }
 
 /// Runs one row's loop so many times and nothing else: for a program that counts instructions.
 pub fn count(index: usize, side: &str, times: usize) -> bool {
-    let mut row = rows().into_iter().nth(index).expect("a row");
-    match (side, &mut row.rust) {
-        ("rust", Some(run)) => run(times),
-        ("library", _) => (row.ours)(times),
-        _ => return false,
-    }
+    let mut loops = rows().into_iter().nth(index).expect("a row").loops;
+    let run = match side {
+        "rust" => loops.rust.as_mut(),
+        "plain" => loops.plain.as_mut(),
+        _ => Some(&mut loops.ours),
+    };
+    let Some(run) = run else { return false };
+    run(times);
     true
 }

@@ -10,7 +10,7 @@ use crate::model;
 use crate::oracle::path::{Expected, Oracle};
 use crate::oracle::{self, ACCEPTED};
 use crate::plant::{self, Plant};
-use crate::tally::{Call, Tally, hex};
+use crate::tally::{Call, Source, Tally, hex};
 
 /// Compares calls and counts them.
 #[derive(Default)]
@@ -52,14 +52,14 @@ impl Checker {
         call: Call,
         input: Input,
         argument: impl Debug,
-        expected: T,
+        (expected, source): Expected<T>,
         ours: impl FnOnce(&[u8]) -> T,
     ) {
         let mut answer = ours(self.source.bytes());
         plant::lent(&self.plant, call, answer.answer(), self.source.room_mut());
         plant::answer(&self.plant, call, &mut answer);
         let words = || describe(input, &argument);
-        self.tally.compare(call, &answer, &expected, words);
+        self.tally.compare(call, &answer, (&expected, source), words);
         if self.source.room() != self.source.expected() {
             self.tally.bytes(call, self.source.room(), self.source.expected(), words);
             self.source.set(input.bytes);
@@ -70,25 +70,26 @@ impl Checker {
     pub fn read_path<'a>(&mut self, input: Input<'a>) -> Oracle<'a> {
         self.source.set(input.bytes);
         let oracle = Oracle::new(input.path_type, input.bytes);
-        self.reading(Call::ReadPath, input, (), oracle.read_path(), |bytes| calls::read_path(input.path_type, bytes));
+        let expected = (oracle.read_path(), Source::Rust);
+        self.reading(Call::ReadPath, input, (), expected, |bytes| calls::read_path(input.path_type, bytes));
         oracle
     }
 
     /// Info field `index`.
     pub fn info_field(&mut self, input: Input, oracle: &Oracle, index: usize) {
-        let expected = oracle.info_field(index);
+        let expected = (oracle.info_field(index), oracle.source());
         self.reading(Call::InfoField, input, index, expected, |bytes| calls::info_field(input.path_type, bytes, index));
     }
 
     /// Hop field `index`.
     pub fn hop_field(&mut self, input: Input, oracle: &Oracle, index: usize) {
-        let expected = oracle.hop_field(index);
+        let expected = (oracle.hop_field(index), oracle.source());
         self.reading(Call::HopField, input, index, expected, |bytes| calls::hop_field(input.path_type, bytes, index));
     }
 
     /// Segment `index`.
     pub fn segment(&mut self, input: Input, oracle: &Oracle, index: usize) {
-        let expected = oracle.segment(index);
+        let expected = (oracle.segment(index), oracle.source());
         self.reading(Call::Segment, input, index, expected, |bytes| calls::segment(input.path_type, bytes, index));
     }
 
@@ -125,14 +126,15 @@ impl Checker {
     ) {
         let words = || describe(input, &at);
         let answer = calls::hop_field(input.path_type, input.bytes, at.0);
-        self.tally.compare(Call::HopField, &answer, &oracle.hop_values(field), words);
+        let expected = oracle.hop_values(field);
+        self.tally.compare(Call::HopField, &answer, (&expected, Source::Rust), words);
         let ours = derived(&answer, &calls::info_field(input.path_type, input.bytes, at.1));
         self.tally.values(Call::HopField, &ours, &oracle::path::derived(field, info), words);
     }
 
     /// When segment `index` expires.
     pub fn segment_expiry(&mut self, input: Input, oracle: &Oracle, index: usize) {
-        let expected = oracle.segment_expiry(index);
+        let expected = (oracle.segment_expiry(index), oracle.source());
         self.reading(Call::SegmentExpiry, input, index, expected, |bytes| {
             calls::segment_expiry(input.path_type, bytes, index)
         });
@@ -140,7 +142,7 @@ impl Checker {
 
     /// When the path expires.
     pub fn expiry(&mut self, input: Input, oracle: &Oracle) {
-        let expected = oracle.expiry();
+        let expected = (oracle.expiry(), oracle.source());
         self.reading(Call::Expiry, input, (), expected, |bytes| calls::expiry(input.path_type, bytes));
     }
 
@@ -152,7 +154,7 @@ impl Checker {
 
     /// How many interfaces there are.
     pub fn interfaces_count(&mut self, input: Input, oracle: &Oracle) {
-        let expected = oracle.interfaces_count();
+        let expected = (oracle.interfaces_count(), oracle.source());
         self.reading(Call::InterfacesCount, input, (), expected, |bytes| {
             calls::interfaces_count(input.path_type, bytes)
         });
@@ -160,16 +162,8 @@ impl Checker {
 
     /// Interface `index`.
     pub fn interface(&mut self, input: Input, oracle: &Oracle, index: usize) {
-        let expected = self.excepted(oracle.interface(index));
+        let expected = oracle.interface(index);
         self.reading(Call::Interface, input, index, expected, |bytes| calls::interface(input.path_type, bytes, index));
-    }
-
-    /// Counts the exception of an expected answer.
-    fn excepted<T>(&mut self, (expected, exception): Expected<T>) -> T {
-        if let Some(exception) = exception {
-            self.tally.except(exception);
-        }
-        expected
     }
 
     /// Compares a call that changes the lent bytes; `theirs` changes the ones expected.
@@ -178,23 +172,23 @@ impl Checker {
         call: Call,
         input: Input,
         argument: impl Debug,
-        theirs: impl FnOnce(&mut [u8]) -> T,
+        theirs: impl FnOnce(&mut [u8]) -> Expected<T>,
         ours: impl FnOnce(&mut [u8]) -> T,
     ) {
         self.source.set(input.bytes);
         let mut answer = ours(self.source.bytes_mut());
-        let expected = theirs(self.source.expected_mut());
+        let (expected, source) = theirs(self.source.expected_mut());
         plant::lent(&self.plant, call, answer.answer(), self.source.room_mut());
         plant::answer(&self.plant, call, &mut answer);
         let words = || describe(input, &argument);
-        self.tally.compare(call, &answer, &expected, words);
+        self.tally.compare(call, &answer, (&expected, source), words);
         self.tally.bytes(call, self.source.room(), self.source.expected(), words);
         self.source.set(input.bytes);
     }
 
     /// An alert flag of hop field `index` set or cleared.
     pub fn set_alert(&mut self, input: Input, oracle: &Oracle, index: usize, is_ingress: bool, on: bool) {
-        let theirs = |after: &mut [u8]| oracle.set_alert(index, is_ingress, on, after);
+        let theirs = |after: &mut [u8]| (oracle.set_alert(index, is_ingress, on, after), oracle.source());
         if is_ingress {
             self.changing(Call::SetIngressAlert, input, (index, on), theirs, |bytes| {
                 calls::set_ingress_router_alert(input.path_type, bytes, index, on)
@@ -208,13 +202,13 @@ impl Checker {
 
     /// A single move.
     pub fn single_move(&mut self, input: Input, oracle: &Oracle) {
-        let theirs = |after: &mut [u8]| model::single_move(oracle, after);
+        let theirs = |after: &mut [u8]| (model::single_move(oracle, after), Source::Model);
         self.changing(Call::Move, input, (), theirs, |bytes| calls::single_move(input.path_type, bytes));
     }
 
     /// A walk.
     pub fn walk(&mut self, input: Input, oracle: &Oracle, limit: usize) {
-        let theirs = |after: &mut [u8]| model::walk(oracle, after, limit);
+        let theirs = |after: &mut [u8]| (model::walk(oracle, after, limit), Source::Model);
         self.changing(Call::Walk, input, limit, theirs, |bytes| calls::walk(input.path_type, bytes, limit));
     }
 
@@ -240,14 +234,13 @@ impl Checker {
         call: Call,
         input: Input,
         argument: impl Debug,
-        expected: Expected<T>,
+        (expected, source): Expected<T>,
         mut answer: T,
     ) {
         plant::lent(&self.plant, call, answer.answer(), self.dst.room_mut());
         plant::answer(&self.plant, call, &mut answer);
-        let expected = self.excepted(expected);
         let words = || describe(input, &argument);
-        self.tally.compare(call, &answer, &expected, words);
+        self.tally.compare(call, &answer, (&expected, source), words);
         self.tally.bytes(call, self.dst.room(), self.dst.expected(), words);
         self.tally.bytes(call, self.source.room(), self.source.expected(), words);
     }
@@ -255,7 +248,7 @@ impl Checker {
     /// A packet split.
     pub fn read_packet(&mut self, bytes: &[u8]) {
         self.source.set(bytes);
-        let expected = oracle::packet::read_packet(bytes);
+        let expected = (oracle::packet::read_packet(bytes), Source::Rust);
         let input = Input { path_type: 0, bytes };
         self.reading(Call::ReadPacket, input, "packet", expected, calls::read_packet);
     }
@@ -270,22 +263,23 @@ impl Checker {
         flow_id: u32,
     ) -> Headers {
         let (path_type, bytes) = (path.path_type, path.bytes);
-        let expected = oracle::write::new_headers(ends, path_type, bytes, next_header, payload_length, flow_id);
+        let (expected, source) =
+            oracle::write::new_headers(ends, path_type, bytes, next_header, payload_length, flow_id);
         let mut made = calls::new_headers(ends, path_type, bytes.len(), next_header, payload_length, flow_id);
         plant_plain(&self.plant, Call::NewHeaders, &mut made);
         let words = || describe(path, &(ends, next_header, payload_length, flow_id));
-        self.tally.count(Call::NewHeaders, ACCEPTED);
+        self.tally.count(Call::NewHeaders, ACCEPTED, source);
         self.tally.values(Call::NewHeaders, &made, &expected, words);
         expected
     }
 
     /// How many bytes headers take.
     pub fn headers_length(&mut self, headers: &Headers, path: &[u8]) -> usize {
-        let expected = oracle::write::headers_length(headers, path);
+        let (expected, source) = oracle::write::headers_length(headers, path);
         let mut length = calls::headers_length(headers, path.len());
         plant_plain(&self.plant, Call::HeadersLength, &mut length);
         let input = Input { path_type: headers.path_type, bytes: path };
-        self.tally.count(Call::HeadersLength, ACCEPTED);
+        self.tally.count(Call::HeadersLength, ACCEPTED, source);
         self.tally.values(Call::HeadersLength, &length, &expected, || describe(input, headers));
         expected
     }
@@ -304,7 +298,7 @@ impl Checker {
     pub fn write_new_headers(&mut self, ends: &Ends, headers: &Headers, path: &[u8], size: usize) {
         self.source.set(path);
         self.dst.set_filled(0xee, size);
-        let expected = oracle::write::write_headers(headers, path, self.dst.expected_mut());
+        let expected = oracle::write::write_new_headers(ends, headers, path, self.dst.expected_mut());
         let answer = calls::write_new_headers(
             ends,
             headers.path_type,

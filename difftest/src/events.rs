@@ -11,7 +11,7 @@ use crate::oracle::path::Oracle;
 use crate::plant;
 use crate::random::Random;
 use crate::shapes::{self, Pointers};
-use crate::tally::{Call, hex};
+use crate::tally::{Call, Source, hex};
 
 /// The first sender and the other end.
 const FIRST: usize = 0;
@@ -165,7 +165,7 @@ fn single_move(checker: &mut Checker, state: &mut State, begun: &Begun, at: usiz
     plant::answer(&checker.plant, Call::Move, &mut answer);
     let is_last = usize::from(before[0] & 63) + 1 == begun.shape.hop_fields;
     let expected = if is_last { 15 } else { 0 };
-    checker.tally.count(Call::Move, answer.answer());
+    checker.tally.count(Call::Move, answer.answer(), Source::Model);
     claim(checker, Call::Move, begun, list, answer.answer.number == expected, "15 just at the last hop field");
     if answer.answer.number == 0 {
         packet.count += 1;
@@ -192,7 +192,7 @@ fn walked(checker: &mut Checker, begun: &Begun, packet: &mut Packet, limit: usiz
     let mut walk = calls::walk(1, &mut packet.bytes, limit);
     plant::lent(&checker.plant, Call::Walk, walk.answer, &mut packet.bytes);
     plant::answer(&checker.plant, Call::Walk, &mut walk);
-    checker.tally.count(Call::Walk, walk.answer());
+    checker.tally.count(Call::Walk, walk.answer(), Source::Model);
     packet.count = packet.count.wrapping_add(walk.moves);
     let is_last = usize::from(packet.bytes[0] & 63) + 1 == begun.shape.hop_fields;
     let is_told = walk.answer.number == 0 && walk.arrived == u8::from(is_last);
@@ -235,7 +235,7 @@ fn turned(checker: &mut Checker, bytes: &[u8], dst: &mut [u8]) -> PathAnswer {
     let mut answer = calls::reverse_path(1, bytes, dst);
     plant::lent(&checker.plant, Call::ReversePath, answer.answer, dst);
     plant::answer(&checker.plant, Call::ReversePath, &mut answer);
-    checker.tally.count(Call::ReversePath, answer.answer());
+    checker.tally.count(Call::ReversePath, answer.answer(), Source::Model);
     answer
 }
 

@@ -8,16 +8,24 @@ mod packets;
 mod paths;
 mod runs;
 
-/// The words of a line, and the answer that is made of them.
+use crate::tally::{Exception, Source, Tally};
+
+/// The words of a line, the answer that is made of them, and whose answer that is.
 pub struct Line<'a> {
     words: Vec<&'a str>,
     answer: String,
+    source: Source,
 }
 
 impl<'a> Line<'a> {
     /// Splits a line.
     fn new(line: &'a str) -> Self {
-        Self { words: line.split(' ').collect(), answer: String::new() }
+        Self { words: line.split(' ').collect(), answer: String::new(), source: Source::Rust }
+    }
+
+    /// Says that the answer falls under an exception.
+    fn except(&mut self, exception: Exception) {
+        self.source = Source::Excepted(exception);
     }
 
     /// Word `k` as a number; 0 where there is none.
@@ -75,36 +83,80 @@ pub fn parse_bytes(word: &str) -> Vec<u8> {
     bytes
 }
 
-/// The Rust's answer to a call, as text; none where it is no call or one that the Rust can't be asked.
-pub fn answer(text: &str) -> Option<String> {
+/// The answer to a call, as text, and whose it is; none where it is no call or one that the Rust can't be asked.
+pub fn answer(text: &str) -> Option<(String, Source)> {
     let mut line = Line::new(text);
-    let is_known = paths::answer(&mut line)
-        || fields::answer(&mut line)
-        || packets::answer(&mut line)
-        || runs::answer(&mut line);
-    is_known.then_some(line.answer)
+    let is_known =
+        paths::answer(&mut line) || fields::answer(&mut line) || packets::answer(&mut line) || runs::answer(&mut line);
+    is_known.then_some((line.answer, line.source))
 }
 
-/// Compares the answers in a file of lines with the Rust's: how many agree, differ, and can't be asked.
-/// A line with the answer `?` is no call.
-pub fn replay(text: &str) -> (usize, usize, usize) {
-    let (mut same, mut other, mut unasked) = (0, 0, 0);
-    for line in text.lines() {
-        let Some((call, stored)) = line.split_once(" =>") else { continue };
-        if stored == " ?" {
-            continue;
+/// What a line with a stored answer turns out to be.
+pub enum Verdict {
+    /// No call, or one that is none of the program's (`?`).
+    NoCall,
+    /// One that the Rust can't be asked.
+    Unasked,
+    Same(Source),
+    Differs {
+        source: Source,
+        expected: String,
+    },
+}
+
+/// Compares the answer stored in a line with the Rust's, or with document 01's where the Rust has none.
+pub fn verdict(line: &str) -> Verdict {
+    let Some((call, stored)) = line.split_once(" =>") else { return Verdict::NoCall };
+    if stored == " ?" {
+        return Verdict::NoCall;
+    }
+    match answer(call) {
+        None => Verdict::Unasked,
+        Some((expected, source)) if expected == stored => Verdict::Same(source),
+        Some((expected, source)) => Verdict::Differs { source, expected },
+    }
+}
+
+/// The stored answers that were compared.
+#[derive(Default)]
+pub struct Replayed {
+    pub by_rust: usize,
+    pub by_model: usize,
+    pub differed: usize,
+    pub unasked: usize,
+    /// The exceptions among them, by name.
+    pub tally: Tally,
+}
+
+impl Replayed {
+    /// Counts an answer by whose it is to be.
+    fn count(&mut self, source: Source) {
+        if source.is_rust() {
+            self.by_rust += 1;
+        } else {
+            self.by_model += 1;
         }
-        match answer(call) {
-            Some(answer) if answer == stored => same += 1,
-            Some(answer) => {
-                other += 1;
-                println!("DIFFERS {call}\n    stored  {stored}\n    by Rust {answer}");
-            }
-            None => {
-                unasked += 1;
+        if let Source::Excepted(exception) = source {
+            self.tally.except(exception);
+        }
+    }
+}
+
+/// Compares the answers in a file of lines.
+pub fn replay(text: &str, replayed: &mut Replayed) {
+    for line in text.lines() {
+        match verdict(line) {
+            Verdict::NoCall => {}
+            Verdict::Unasked => {
+                replayed.unasked += 1;
                 println!("not asked: {line}");
+            }
+            Verdict::Same(source) => replayed.count(source),
+            Verdict::Differs { source, expected } => {
+                replayed.count(source);
+                replayed.differed += 1;
+                println!("DIFFERS {line}\n    expected {expected}");
             }
         }
     }
-    (same, other, unasked)
 }

@@ -29,7 +29,7 @@ impl Subject {
 
     /// A call with its answer.
     fn call(&mut self, call: String) {
-        let answer = lines::answer(&call).unwrap_or_else(|| panic!("the Rust can't be asked: {call}"));
+        let (answer, _) = lines::answer(&call).unwrap_or_else(|| panic!("the Rust can't be asked: {call}"));
         self.lines.push(format!("{call} =>{answer}"));
     }
 }
@@ -142,6 +142,23 @@ fn placed(random: &mut Random, subject: &mut Subject) {
         subject.call(format!("offset {a} {b} {c} {}", random.below(5)));
         subject.call(format!("offset {a} {b} {c} {}", random.below(a + b + c + 2)));
     }
+    subject.note(
+        "Indexes beside the first at which an offset does not fit 64 bits, in the Rust a panic or a wrapped one.",
+    );
+    for index in [(1u64 << 61) - 1, 1 << 61].into_iter().chain(1_537_228_672_809_129_298..=1_537_228_672_809_129_301) {
+        subject.call(format!("offset 1 0 0 {index}"));
+        subject.call(format!("offset 1 1 1 {index}"));
+    }
+    for index in crate::paths::FAR {
+        subject.call(format!("offset 1 0 0 {index}"));
+    }
+    subject.note("Lengths that no path has: what they count shows in where there is nothing any more.");
+    for [a, b, c] in [[0, 0, 0], [0, 0, 1], [0, 5, 0], [2, 0, 1], [3, 0, 2]] {
+        for index in 0..=10 {
+            subject.call(format!("ifhop {a} {b} {c} {index}"));
+            subject.call(format!("offset {a} {b} {c} {index}"));
+        }
+    }
 }
 
 /// Fields, flags, times, bounded numbers and addresses.
@@ -203,9 +220,24 @@ fn values(random: &mut Random, subject: &mut Subject) {
     for number in [0, 1, (1 << 48) - 1, 1 << 48, (1 << 48) + 1, u64::MAX] {
         subject.call(format!("isdasn {number}"));
     }
+    for isd in [0, 1, 65_535] {
+        for asn in [0, 1, 0xff00_0000_0110, (1 << 48) - 1, 1 << 48, u64::MAX] {
+            subject.call(format!("newisdasn {isd} {asn}"));
+        }
+    }
+    for number in [0, 1, 2, 16, 0x7fff, 0x8000, 0x8001, 0xffff] {
+        subject.call(format!("service {number}"));
+    }
     for byte in 0..8 {
         subject.call(format!("hosttype {byte}"));
         subject.call(format!("hostkind {byte}"));
+    }
+    for kind in 0..16 {
+        subject.call(format!("hostlength {kind}"));
+    }
+    subject.note("Constants.");
+    for index in 0..=14 {
+        subject.call(format!("constant {index}"));
     }
 }
 
@@ -232,6 +264,7 @@ fn paths(random: &mut Random) -> Subject {
         let longer = [&bytes[..], &[0xee, 0xee]].concat();
         for length in [bytes.len() - 1, bytes.len(), bytes.len() + 2] {
             subject.call(format!("path 1 {}", word(&longer[..length])));
+            subject.call(format!("raw 1 {}", word(&longer[..length])));
         }
     }
     for [a, b, c] in shapes::BORDERS {
@@ -243,6 +276,7 @@ fn paths(random: &mut Random) -> Subject {
     for path_type in [0, 1, 2, 3, 4, 5, 254, 255] {
         for bytes in ["-", "00", "010203", "00001000+20", "00002001+44", "40002000+32", "02002000+32"] {
             subject.call(format!("path {path_type} {bytes}"));
+            subject.call(format!("raw {path_type} {bytes}"));
         }
     }
     viewed(random, &mut subject);
@@ -430,6 +464,7 @@ fn headers(random: &mut Random) -> Subject {
         subject.call(format!("putcommon {version} 1 2 3 9 4 5 {destination} {source} 6 {}", word(&[0xee; 12])));
     }
     addresses(random, &mut subject);
+    named_addresses(random, &mut subject);
     subject
 }
 
@@ -451,14 +486,78 @@ fn addresses(random: &mut Random, subject: &mut Subject) {
     }
 }
 
+/// Addresses whose hosts have names: another network or host set, and headers made of two.
+fn named_addresses(random: &mut Random, subject: &mut Subject) {
+    subject.note(
+        "Addresses made and changed, every kind of host that has a name into every other; headers of two addresses.",
+    );
+    for kinds in [0x00, 0x03, 0x04, 0x30, 0x33, 0x34, 0x40, 0x43, 0x44] {
+        for _ in 0..2 {
+            let ends = shapes::ends(random, kinds >> 4, kinds & 15);
+            let (one, other) = (host_words(&ends.destination), host_words(&ends.source));
+            subject.call(format!("endhost {} {one} {} {other}", ends.destination_ia, ends.source_ia));
+        }
+        let length = 16 + hosts_length(kinds);
+        for size in [length, length, length - 1, length + 1, 0] {
+            subject.call(format!("newaddr {} {}", ends_words(random, kinds), word(&vec![0xee; size])));
+        }
+    }
+}
+
+/// Runs of hop fields, read from both ends.
+fn runs(random: &mut Random) -> Subject {
+    let mut subject = Subject::new("runs");
+    let field = |k: usize| [16 * k as u8, k as u8, 0, k as u8, 1, k as u8, 0xa0, 0xb0, 0xc0, 0xd0, 0xe0, k as u8];
+    subject.note("Runs of 0 to 4 hop fields read in every order, with one read too many.");
+    for count in 0..=4 {
+        let run = hex(&(1..=count).flat_map(field).collect::<Vec<u8>>());
+        for bits in 0..2 << count {
+            subject.call(format!("reads {run} {}", order(count + 1, bits)));
+        }
+        subject.call(format!("ends {run}"));
+        subject.call(format!("parts {run}"));
+    }
+    subject.note("Longer runs, with reads too many at both ends.");
+    for count in [5, 6, 7, 10, 10, 63, 64, 65, 127, 189] {
+        let run = hex(&random.bytes(12 * count));
+        let bits = random.next() as usize;
+        subject.call(format!("reads {run} {}fbbf", order(count, bits)));
+        subject.call(format!("reads {run} fbf{}", "b".repeat(count)));
+    }
+    subject.note("Bytes that are no run: 9, and nothing to read.");
+    for length in [1, 11, 13, 23, 25, 35] {
+        let bytes = hex(&random.bytes(length));
+        subject.call(format!("reads {bytes} f"));
+        subject.call(format!("reads {bytes} bfb"));
+        subject.call(format!("ends {bytes}"));
+        subject.call(format!("parts {bytes}"));
+    }
+    subject.note("The hop fields of paths and of segments.");
+    for bytes in samples(random) {
+        subject.call(format!("hops 1 {}", word(&bytes)));
+        for index in [0, 1, 2, 3, usize::MAX] {
+            subject.call(format!("seghops 1 {} {index}", word(&bytes)));
+        }
+    }
+    subject
+}
+
+/// An order of reads by the bits of a number, which is gone through again where it is too short.
+fn order(count: usize, bits: usize) -> String {
+    (0..count).map(|k| if bits >> (k % 64) & 1 == 0 { 'f' } else { 'b' }).collect()
+}
+
+/// The words of a host.
+fn host_words(host: &scion_proto::Host) -> String {
+    let length = if host.kind == 4 { 0 } else { 4 * (usize::from(host.kind % 4) + 1) };
+    format!("{} {} {}", host.kind, host.service, hex(&host.bytes[..length]))
+}
+
 /// The words of two ends.
 fn ends_words(random: &mut Random, kinds: u8) -> String {
     let ends = shapes::ends(random, kinds >> 4, kinds & 15);
-    let host = |host: &scion_proto::Host| {
-        let length = 4 * (usize::from(host.kind % 4) + 1);
-        format!("{} {} {}", host.kind, host.service, hex(&host.bytes[..length]))
-    };
-    format!("{} {} {} {}", ends.destination_ia, ends.source_ia, host(&ends.destination), host(&ends.source))
+    let (destination, source) = (host_words(&ends.destination), host_words(&ends.source));
+    format!("{} {} {destination} {source}", ends.destination_ia, ends.source_ia)
 }
 
 /// How many bytes the hosts of two kinds take.
@@ -533,12 +632,10 @@ fn store(folder: &Path, subject: Subject) -> (usize, usize) {
     (files.len(), subject.lines.iter().filter(|line| !line.starts_with('#')).count())
 }
 
-/// Writes the whole list to a folder.
-pub fn run(folder: &str) -> bool {
+/// The whole list, by subject.
+fn subjects() -> Vec<Subject> {
     let mut random = Random::new(2026);
-    let folder = Path::new(folder);
-    fs::create_dir_all(folder).expect("a folder");
-    let subjects = [
+    vec![
         meta(&mut random),
         fields(&mut random),
         paths(&mut random),
@@ -546,8 +643,20 @@ pub fn run(folder: &str) -> bool {
         packets(&mut random),
         headers(&mut random),
         writing(&mut random),
-    ];
-    for subject in subjects {
+        runs(&mut random),
+    ]
+}
+
+/// Every line of the list.
+pub fn all_lines() -> Vec<String> {
+    subjects().into_iter().flat_map(|subject| subject.lines).collect()
+}
+
+/// Writes the whole list to a folder.
+pub fn run(folder: &str) -> bool {
+    let folder = Path::new(folder);
+    fs::create_dir_all(folder).expect("a folder");
+    for subject in subjects() {
         let name = subject.name;
         let (files, lines) = store(folder, subject);
         println!("list: {name}: {lines} calls in {files} files");

@@ -10,6 +10,7 @@ mod model;
 mod oracle;
 mod packets;
 mod paths;
+mod plain;
 mod plant;
 mod random;
 mod results;
@@ -115,6 +116,11 @@ fn run(checker: &mut Checker, size: &Size) -> bool {
     is_as_worked
 }
 
+/// Which build of the Rust this is.
+fn profile() -> &'static str {
+    if cfg!(debug_assertions) { "debug" } else { "release" }
+}
+
 /// A run, its tables, its differences and its last line; whether nothing differed.
 fn compare() -> bool {
     let size = Size {
@@ -122,7 +128,7 @@ fn compare() -> bool {
         words: option("--words").unwrap_or_else(|| String::from("few")),
         seed: number("--seed", 1),
     };
-    let profile = if cfg!(debug_assertions) { "debug" } else { "release" };
+    let profile = profile();
     println!("{profile} build of the Rust, seed {}, {} random calls, {} meta words", size.seed, size.calls, size.words);
     let mut checker = Checker::default();
     let is_as_worked = run(&mut checker, &size);
@@ -136,16 +142,22 @@ fn compare() -> bool {
 
 /// Compares the answers stored in the files named by the arguments with the Rust's; whether none differs.
 fn replay() -> bool {
-    let (mut same, mut other, mut unasked) = (0, 0, 0);
+    let mut replayed = lines::Replayed::default();
     for file in std::env::args().skip(2) {
-        let text = std::fs::read_to_string(&file).expect("a file of lines");
-        let counts = lines::replay(&text);
-        (same, other, unasked) = (same + counts.0, other + counts.1, unasked + counts.2);
+        lines::replay(&std::fs::read_to_string(&file).expect("a file of lines"), &mut replayed);
     }
+    println!("exceptions\n{}", replayed.tally.exceptions_table());
     println!(
-        "replayed {same} stored answers that the Rust gives, {other} that it does not, {unasked} that it can't be asked"
+        "{}: stored answers: {} ({} by the Rust, {} by document 01's model), {} differed, {} under exceptions; {} can't be asked",
+        profile(),
+        replayed.by_rust + replayed.by_model,
+        replayed.by_rust,
+        replayed.by_model,
+        replayed.differed,
+        replayed.tally.excepted(),
+        replayed.unasked
     );
-    other == 0
+    replayed.differed == 0
 }
 
 fn main() -> ExitCode {

@@ -7,7 +7,7 @@ use crate::model::Shape;
 use crate::oracle::path::{LATEST_NOW, Oracle};
 use crate::random::Random;
 use crate::shapes::{self, Lengths, Pointers};
-use crate::tally::Call;
+use crate::tally::{Call, Source};
 
 /// Indexes that are never there.
 pub const FAR: [usize; 6] = [1 << 32, (1 << 63) - 1, 1 << 63, (1 << 63) + 1, usize::MAX - 1, usize::MAX];
@@ -35,7 +35,8 @@ fn compare_reading(checker: &mut Checker, bytes: &[u8]) {
     let mut ours = calls::read_path(1, bytes);
     let expected = Oracle::new(1, bytes).read_path();
     crate::plant::answer(&checker.plant, Call::ReadPath, &mut ours);
-    checker.tally.compare(Call::ReadPath, &ours, &expected, || format!("type 1 bytes {}", crate::tally::hex(bytes)));
+    let words = || format!("type 1 bytes {}", crate::tally::hex(bytes));
+    checker.tally.compare(Call::ReadPath, &ours, (&expected, Source::Rust), words);
 }
 
 /// Every pointer and length, or each `step`th: the reserved bits follow from the others and take every value.
@@ -96,16 +97,19 @@ pub fn no_bytes(checker: &mut Checker) {
     for path_type in 0..=255 {
         let oracle = Oracle::new(path_type, &[]);
         let words = || format!("type {path_type}, no bytes");
-        checker.tally.compare(Call::ReadPath, &calls::read_path(path_type, &[]), &oracle.read_path(), words);
-        checker.tally.compare(Call::HopField, &calls::hop_field(path_type, &[], 0), &oracle.hop_field(0), words);
+        let (tally, model) = (&mut checker.tally, Source::Model);
+        let expected = oracle.read_path();
+        tally.compare(Call::ReadPath, &calls::read_path(path_type, &[]), (&expected, Source::Rust), words);
+        let expected = oracle.hop_field(0);
+        tally.compare(Call::HopField, &calls::hop_field(path_type, &[], 0), (&expected, oracle.source()), words);
         let expected = crate::model::single_move(&oracle, &mut []);
-        checker.tally.compare(Call::Move, &calls::single_move(path_type, &mut []), &expected, words);
+        tally.compare(Call::Move, &calls::single_move(path_type, &mut []), (&expected, model), words);
         let expected = crate::model::walk(&oracle, &mut [], 1);
-        checker.tally.compare(Call::Walk, &calls::walk(path_type, &mut [], 1), &expected, words);
-        let (expected, _) = oracle.copy_path(&mut []);
-        checker.tally.compare(Call::CopyPath, &calls::copy_path(path_type, &[], &mut []), &expected, words);
-        let (expected, _) = oracle.reverse_path(&mut []);
-        checker.tally.compare(Call::ReversePath, &calls::reverse_path(path_type, &[], &mut []), &expected, words);
+        tally.compare(Call::Walk, &calls::walk(path_type, &mut [], 1), (&expected, model), words);
+        let (expected, source) = oracle.copy_path(&mut []);
+        tally.compare(Call::CopyPath, &calls::copy_path(path_type, &[], &mut []), (&expected, source), words);
+        let (expected, source) = oracle.reverse_path(&mut []);
+        tally.compare(Call::ReversePath, &calls::reverse_path(path_type, &[], &mut []), (&expected, source), words);
     }
 }
 

@@ -12,7 +12,7 @@ use crate::plant::{self, Fault, Plant};
 use crate::random::Random;
 use crate::shapes::{self, Pointers};
 use crate::tally::{CALLS, Call};
-use crate::{events, packets, paths, writing};
+use crate::{events, lines, list, packets, paths, plain, writing};
 
 /// The bytes of a type that count: those whose change makes another value, padding left out.
 fn bytes_of<T: Default + PartialEq + Copy>() -> Vec<usize> {
@@ -140,6 +140,45 @@ fn missed_twists() -> usize {
     missed
 }
 
+/// Faults planted in what plain C answers and writes: how many, and how many of them the benchmark would not see.
+fn plain_faults() -> (usize, usize) {
+    let (mut count, mut missed) = (0, 0);
+    let writes = [Call::ReversePath, Call::WriteNewHeaders];
+    for call in plain::CALLS {
+        let is_there = |plant: &Plant| matches!(plant.fault, Fault::AnswerByte(_)) || writes.contains(&call);
+        for plant in faults(call).into_iter().filter(is_there) {
+            count += 1;
+            missed += report(plant, plain::held(Some(plant)).differed.is_some(), "the benchmark's plain C");
+        }
+    }
+    (count, missed)
+}
+
+/// A word of an answer made wrong: its last digit another one.
+fn other_word(word: &str) -> String {
+    let (rest, last) = word.split_at(word.len() - 1);
+    format!("{rest}{}", if last == "0" { "1" } else { "0" })
+}
+
+/// Faults planted in every word of every stored answer: how many, and how many of them a replay would not see.
+fn stored_faults() -> (usize, usize) {
+    let (mut count, mut missed) = (0, 0);
+    for line in list::all_lines() {
+        let Some((call, answer)) = line.split_once(" => ") else { continue };
+        let words: Vec<&str> = answer.split(' ').collect();
+        for at in 0..words.len() {
+            let mut wrong: Vec<String> = words.iter().map(ToString::to_string).collect();
+            wrong[at] = other_word(words[at]);
+            count += 1;
+            if !matches!(lines::verdict(&format!("{call} => {}", wrong.join(" "))), lines::Verdict::Differs { .. }) {
+                println!("MISSED in word {at} of a stored answer: {line}");
+                missed += 1;
+            }
+        }
+    }
+    (count, missed)
+}
+
 /// Plants every fault; whether all were reported, and none where none was planted.
 pub fn run() -> bool {
     let mut clean = Checker::default();
@@ -160,8 +199,13 @@ pub fn run() -> bool {
     }
     let twists = missed_twists();
     println!("{} wrong rules of moving, {twists} missed", TWISTS.len());
-    println!("planted {count} faults, {} reported, {missed} missed", count - missed);
-    missed == 0 && twists == 0 && clean.tally.differed == 0
+    let (stored, stored_missed) = stored_faults();
+    println!("planted {stored} faults in stored answers, {stored_missed} missed");
+    let (plain, plain_missed) = plain_faults();
+    println!("planted {plain} faults in plain C's answers, {plain_missed} missed");
+    println!("planted {count} faults in the library's answers, {} reported, {missed} missed", count - missed);
+    let is_clean = clean.tally.differed == 0 && plain::held(None).differed.is_none();
+    missed + twists + stored_missed + plain_missed == 0 && is_clean
 }
 
 /// Prints a fault that went unseen; how many that makes.

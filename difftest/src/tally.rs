@@ -54,27 +54,46 @@ pub const CALLS: [Call; 20] = [
     Call::WriteNewHeaders,
 ];
 
-/// Where the Rust gives no answer to compare with, and document 01 decides. There are no others.
+/// Whose answer a call is held to.
+#[derive(Debug, Clone, Copy, PartialEq, Eq)]
+pub enum Source {
+    /// The Rust's.
+    Rust,
+    /// The one of document 01's text: what the Rust lacks, or can't be asked.
+    Model,
+    /// An exception's.
+    Excepted(Exception),
+}
+
+impl Source {
+    /// Whether the answer is the Rust's; of the exceptions only contradictory headers are written by it.
+    pub fn is_rust(self) -> bool {
+        matches!(self, Self::Rust | Self::Excepted(Exception::ContradictoryHeaders))
+    }
+}
+
+/// Where the Rust's answer has no meaning or is not document 01's, which decides. There are no others.
 #[derive(Debug, Clone, Copy, PartialEq, Eq)]
 #[repr(usize)]
 pub enum Exception {
     PanickingSize,
-    PanickingIndex,
     InterfaceBeyondCount,
+    OffsetBeyondCount,
     UnreadStandardPathWritten,
     LongerEncoderDestination,
     ContradictoryHeaders,
-    PathLengthHint,
-    FilesNotAtHand,
 }
 
 /// Each exception with its reason.
-pub const EXCEPTIONS: [(Exception, &str); 8] = [
-    (Exception::PanickingSize, "the Rust was seen to panic at this size; 01: 9"),
-    (Exception::PanickingIndex, "the Rust panics at this index; no wanted call has one, so none is counted"),
+pub const EXCEPTIONS: [(Exception, &str); 6] = [
+    (Exception::PanickingSize, "the Rust was seen to panic at this size; 01: 9, or 1 for a number cut short"),
     (
         Exception::InterfaceBeyondCount,
         "interface index at or above the count, where the Rust's answer has no meaning; 01: 8",
+    ),
+    (
+        Exception::OffsetBeyondCount,
+        "offset of a field that is not there: past the path, and near 2^64 wrapped or a panic; 01: 8",
     ),
     (
         Exception::UnreadStandardPathWritten,
@@ -85,11 +104,6 @@ pub const EXCEPTIONS: [(Exception, &str); 8] = [
         Exception::ContradictoryHeaders,
         "a factor that the lengths don't give; the Rust writes it as it stands, and is compared",
     ),
-    (Exception::PathLengthHint, "the Rust's length hint beside a path; always the byte count here, so none is counted"),
-    (
-        Exception::FilesNotAtHand,
-        "what stands in files that are not at hand; not on the byte path but for the glue named in README.md",
-    ),
 ];
 
 /// How many differences are shown of each call: those with the shortest inputs.
@@ -99,6 +113,7 @@ const SHOWN: usize = 3;
 #[derive(Default)]
 pub struct Tally {
     counts: [[u64; 16]; CALLS.len()],
+    by_rust: u64,
     exceptions: [u64; EXCEPTIONS.len()],
     pub differed: u64,
     pub claims: u64,
@@ -118,19 +133,23 @@ impl Tally {
         &mut self,
         call: Call,
         ours: &T,
-        expected: &T,
+        (expected, source): (&T, Source),
         input: impl FnOnce() -> String,
     ) {
-        self.count(call, expected.answer());
+        self.count(call, expected.answer(), source);
         if ours != expected {
             self.differ(call, input(), format!("{ours:?}"), format!("{expected:?}"));
         }
     }
 
-    /// Counts a call by the number that is expected of it.
+    /// Counts a call by the number that is expected of it and by whose answer that is.
     #[inline]
-    pub fn count(&mut self, call: Call, answer: Answer) {
+    pub fn count(&mut self, call: Call, answer: Answer, source: Source) {
         self.counts[call as usize][usize::from(answer.number & 15)] += 1;
+        self.by_rust += u64::from(source.is_rust());
+        if let Source::Excepted(exception) = source {
+            self.except(exception);
+        }
     }
 
     /// Compares the bytes after a call, which has been counted.
@@ -160,7 +179,6 @@ impl Tally {
     }
 
     /// Counts an exception.
-    #[inline]
     pub fn except(&mut self, exception: Exception) {
         self.exceptions[exception as usize] += 1;
     }
@@ -187,20 +205,34 @@ impl Tally {
             text.push('\n');
         }
         text.push_str("exceptions\n");
-        for (exception, reason) in EXCEPTIONS {
-            let name = format!("{exception:?}");
-            writeln!(text, "{name:<26}{:>12}  {reason}", self.exceptions[exception as usize]).unwrap();
-        }
+        text.push_str(&self.exceptions_table());
         text
+    }
+
+    /// The exceptions that were met, by name, with their reasons.
+    pub fn exceptions_table(&self) -> String {
+        let line = |(exception, reason): (Exception, &str)| {
+            let name = format!("{exception:?}");
+            format!("{name:<26}{:>12}  {reason}\n", self.exceptions[exception as usize])
+        };
+        EXCEPTIONS.into_iter().filter(|(exception, _)| self.exceptions[*exception as usize] > 0).map(line).collect()
+    }
+
+    /// How many calls fell under exceptions.
+    pub fn excepted(&self) -> u64 {
+        self.exceptions.iter().sum()
     }
 
     /// The last line of a run.
     pub fn summary(&self) -> String {
         format!(
-            "compared {} calls, {} differed, {} under exceptions; {} events, {} claims of event lists",
+            "compared {} calls ({} by the Rust, {} by document 01's model), {} differed, {} under exceptions; \
+             {} events, {} claims of event lists",
             self.compared(),
+            self.by_rust,
+            self.compared() - self.by_rust,
             self.differed,
-            self.exceptions.iter().sum::<u64>(),
+            self.excepted(),
             self.events,
             self.claims
         )

@@ -22,10 +22,10 @@ ghost use Prim.Native.Nat.{_<_};
 pub fn answer(line: &[u8]) {
     let number = words::call_of(
         line,
-        b"path bs locinfo bsn lochop bsn segment bsn segexp bsn pathexp bs left bsn ifcount bs iface bsn hops bs seghops bsn get 2sn get 4sn get 8sn",
+        b"path bs locinfo bsn lochop bsn segment bsn segexp bsn pathexp bs left bsn ifcount bs iface bsn raw bs",
     );
     if number == 0 {
-        answer_change(line);
+        answer_part(line);
         return;
     }
     let mut room = [0u8; words::MOST_BYTES];
@@ -34,7 +34,7 @@ pub fn answer(line: &[u8]) {
     read_at(number, path, &room[..length], words::index_at(line, 3));
 }
 
-// Answers a call on the path whose type is word 1 and whose bytes are word 2, at the index of word 3; `get` reads these bytes alone.
+// Answers a call on the path whose type is word 1 and whose bytes are word 2, at the index of word 3.
 fn read_at(number: usize, path: DataplanePath, bytes: &[u8], index: usize) {
     match number {
         1 => paths::read(path, bytes),
@@ -48,10 +48,30 @@ fn read_at(number: usize, path: DataplanePath, bytes: &[u8], index: usize) {
         7 => paths::left(path, bytes, index as u64),
         8 => paths::ifcount(path, bytes),
         9 => paths::iface(path, bytes, index),
-        10 => runs::hops(path, bytes),
-        11 => runs::seghops(path, bytes, index),
-        12 => values::get_2(bytes, index),
-        13 => values::get_4(bytes, index),
+        _ => paths::raw(path, bytes),
+    }
+}
+
+// Answers a call on a part of the bytes of word 2.
+fn answer_part(line: &[u8]) {
+    let number = words::call_of(line, b"hops bs seghops bsn get 2sn get 4sn get 8sn");
+    if number == 0 {
+        answer_change(line);
+        return;
+    }
+    let mut room = [0u8; words::MOST_BYTES];
+    let length = words::bytes_at(line, 2, &mut room);
+    let path = DataplanePath::new(words::u8_at(line, 1));
+    read_part(number, path, &room[..length], words::index_at(line, 3));
+}
+
+// Answers a call on the hop fields of a path or a segment, or on the number at the index of word 3.
+fn read_part(number: usize, path: DataplanePath, bytes: &[u8], index: usize) {
+    match number {
+        1 => runs::hops(path, bytes),
+        2 => runs::seghops(path, bytes, index),
+        3 => values::get_2(bytes, index),
+        4 => values::get_4(bytes, index),
         _ => values::get_8(bytes, index),
     }
 }
@@ -96,7 +116,7 @@ fn change(number: usize, line: &[u8], bytes: &mut [u8], index: usize) {
 fn answer_write(line: &[u8]) {
     let number = words::call_of(
         line,
-        b"copy bss turn bss encode bbbbbbs putaddress nnbhsbhss putcommon bbwbbhbbbhs new bnwbnnbhsbhsss write bbwbnnbhnnbhsbhsss",
+        b"copy bss turn bss encode bbbbbbs putaddress nnbhsbhss newaddr nnbhsbhss putcommon bbwbbhbbbhs new bnwbnnbhsbhsss write bbwbnnbhnnbhsbhsss",
     );
     if number == 0 {
         answer_read(line);
@@ -118,10 +138,10 @@ fn last_word(number: usize) -> usize
 {
     match number {
         3 => 7,
-        4 => 9,
-        5 => 11,
-        6 => 14,
-        7 => 18,
+        4 | 5 => 9,
+        6 => 11,
+        7 => 14,
+        8 => 18,
         _ => 3,
     }
 }
@@ -137,8 +157,9 @@ fn write(number: usize, line: &[u8], bytes: &[u8], dst: &mut [u8]) {
         3 => meta_headers::encode(line, dst),
         // `putaddress`, the eight words of an address header, and D: an address header written alone.
         4 => packets::encoded(packets::address_at(line, 1).encode_to(dst)),
-        5 => packets::put_common(line, dst),
-        6 => packets::new(line, bytes, dst),
+        5 => packets::new_address(line, dst),
+        6 => packets::put_common(line, dst),
+        7 => packets::new(line, bytes, dst),
         _ => packets::write(line, bytes, dst),
     }
 }
@@ -147,7 +168,7 @@ fn write(number: usize, line: &[u8], bytes: &[u8], dst: &mut [u8]) {
 fn answer_read(line: &[u8]) {
     let number = words::call_of(
         line,
-        b"packet s common s meta s firsts s info s infodir sf hop s hopflags sff sides ss ends s parts s",
+        b"packet s common s meta s firsts s info s infodir sf hop s hopflags sff sides ss ends s parts s reads so",
     );
     if number == 0 {
         answer_numbers(line);
@@ -171,32 +192,55 @@ fn read(number: usize, line: &[u8], bytes: &[u8]) {
         8 => fields::hopflags(line, bytes),
         9 => fields::sides(line, bytes),
         10 => runs::ends(bytes),
-        _ => runs::parts(bytes),
+        11 => runs::parts(bytes),
+        _ => runs::reads(bytes, words::word(line, 2)),
     }
 }
 
-// Answers a call on numbers, and one on an address header.
+// Answers a call on the numbers of fields and of meta headers.
 fn answer_numbers(line: &[u8]) {
     let number = words::call_of(
         line,
-        b"infobits f infodirs f hopbits f hopalerts ff expiry wb counts bbbbbb ifhop bbbn offset bbbn address bbs isdasn n service h hosttype b hostkind b bounded 2b bounded 4b bounded 6b bounded tw",
+        b"infobits f infodirs f hopbits f hopalerts ff expiry wb counts bbbbbb ifhop bbbn offset bbbn",
     );
     match number {
-        0 => print::unknown(),
+        0 => answer_values(line),
         1..=4 => fields::each_flags(number, words::flag_at(line, 1), words::flag_at(line, 2)),
         // `expiry t e`: the expiry of a hop field with expiry byte e under time t.
         5 => print::number(expiry(words::u32_at(line, 1), words::u8_at(line, 2))),
         6 => meta_headers::counts(line),
         7 => meta_headers::ifhop(line),
-        8 => meta_headers::offset(line),
-        9 => packets::address(line),
-        10 => values::isdasn(line),
-        11 => values::service(line),
-        12 => values::hosttype(line),
-        13 => values::hostkind(line),
-        14 => values::bounded_2(line),
-        15 => values::bounded_4(line),
-        16 => values::bounded_6(line),
+        _ => meta_headers::offset(line),
+    }
+}
+
+// Answers a call on addresses, bounded numbers and constants.
+fn answer_values(line: &[u8]) {
+    let number = words::call_of(
+        line,
+        b"address bbs endhost nbhsnbhs isdasn n newisdasn hn service h hosttype b hostkind b hostlength b constant b",
+    );
+    match number {
+        0 => answer_bounded(line),
+        1 => packets::address(line),
+        2 => packets::endhost(line),
+        3 => values::isdasn(line),
+        4 => values::new_isdasn(line),
+        5 => values::service(line),
+        6 => values::hosttype(line),
+        7 => values::hostkind(line),
+        8 => values::hostlength(line),
+        _ => values::constant(words::u8_at(line, 1)),
+    }
+}
+
+// Answers a call on a bounded number, or prints `?`.
+fn answer_bounded(line: &[u8]) {
+    match words::call_of(line, b"bounded 2b bounded 4b bounded 6b bounded tw") {
+        0 => print::unknown(),
+        1 => values::bounded_2(line),
+        2 => values::bounded_4(line),
+        3 => values::bounded_6(line),
         _ => values::bounded_20(line),
     }
 }

@@ -4,10 +4,12 @@ use crate::print;
 use crate::words;
 use address::host::HostAddr;
 use address::ia::IsdAsn;
+use address::scion_address::ScionAddr;
 use address::service::ServiceAddr;
 use errors::packet_error::Encoded;
 use packet::raw::ScionPacketRaw;
 use packet_address_header::AddressHeader;
+use packet_address_header::EndhostAddr;
 use packet_address_header::HostAddress;
 use packet_address_header::MaybeEncoded;
 use packet_common_header::CommonHeader;
@@ -81,8 +83,24 @@ fn host_kinds(destination: u8, source: u8) -> u8 {
     destination % 16 * 16 + source % 16
 }
 
-// `address D S B`: the address header that begins the bytes, of hosts of kinds D and S, both below 16; its length; whether each host
-// has a name.
+// The network of an address, its host's kind, a service's number and the sixteen bytes.
+fn scion_address(address: ScionAddr) {
+    let host = address.host;
+    let bytes = address.bytes;
+    print::number(address.isd_asn.to_u64());
+    print::byte(address.kind());
+    print::number(service_number(host) as u64);
+    print::bytes(&bytes);
+}
+
+// Whether the host of an end has a name, and its address.
+fn end(end: EndhostAddr) {
+    print::flag(end.known);
+    scion_address(end.address);
+}
+
+// `address D S B`: the address header that begins the bytes, of hosts of kinds D and S, both below 16; its length; whether each end's
+// host has a name, and then its address.
 pub fn address(line: &[u8]) {
     let mut room = [0u8; words::MOST_BYTES];
     let length = words::bytes_at(line, 3, &mut room);
@@ -92,8 +110,8 @@ pub fn address(line: &[u8]) {
     print::decoded(answer);
     address_record(read.header);
     print::number(read.length as u64);
-    print::flag(read.header.destination().known);
-    print::flag(read.header.source().known);
+    end(read.header.destination());
+    end(read.header.source());
 }
 
 // `packet B`: the packet that begins the bytes, where its path and its payload lie, and their bytes.
@@ -142,6 +160,47 @@ pub fn address_at(line: &[u8], k: usize) -> AddressHeader
         destination,
         source,
     }
+}
+
+// A host that has a name: IPv6 of kind 3, a service of kind 4, else IPv4.
+fn named_host(kind: u8, service: u16) -> HostAddr {
+    match kind {
+        3 => HostAddr::V6,
+        4 => HostAddr::Svc(ServiceAddr(service)),
+        _ => HostAddr::V4,
+    }
+}
+
+// The address of a network and of the host that the three words from word `k` on name.
+fn scion_address_at(line: &[u8], isd_asn: u64, k: usize) -> ScionAddr
+    requires { ⌜ k < 100 ⌝ }
+{
+    let mut bytes = [0u8; 16];
+    words::bytes_at(line, k + 2, &mut bytes);
+    let host = named_host(words::u8_at(line, k), words::u16_at(line, k + 1));
+    ScionAddr::new(IsdAsn(isd_asn), host, bytes)
+}
+
+// `endhost n H m K`: the address of host H in network n; the same host in network m; and host K there.
+pub fn endhost(line: &[u8]) {
+    let made = scion_address_at(line, words::u64_at(line, 1), 2);
+    scion_address(made);
+    let moved = made.set_isd_asn(IsdAsn(words::u64_at(line, 5)));
+    scion_address(moved);
+    let other = scion_address_at(line, 0, 6);
+    let host = other.host;
+    let bytes = other.bytes;
+    scion_address(moved.set_host(host, bytes));
+}
+
+// `newaddr`, the eight words of an address header whose hosts have names, and D: the length of the header made of two addresses,
+// and the header written to D.
+pub fn new_address(line: &[u8], dst: &mut [u8]) {
+    let destination = scion_address_at(line, words::u64_at(line, 1), 3);
+    let source = scion_address_at(line, words::u64_at(line, 2), 6);
+    let header = AddressHeader::new(destination, source);
+    print::number(header.encoded_length() as u64);
+    encoded(header.encode_to(dst));
 }
 
 // `write version class flow next factor payload type reserved` and the eight words of an address header, then `P D`: the headers and

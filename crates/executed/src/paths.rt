@@ -15,6 +15,11 @@ pub fn read(path: DataplanePath, bytes: &[u8]) {
     meta_headers::record(read.path.meta_header);
 }
 
+// `raw T B`: the bytes of the path; none where it is refused.
+pub fn raw(path: DataplanePath, bytes: &[u8]) {
+    print::bytes(path.raw(bytes));
+}
+
 // A part by its start and its length.
 fn part(part: Part) {
     print::two(part.start as u64, part.len as u64);

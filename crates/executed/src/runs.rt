@@ -4,6 +4,9 @@ use path::dataplane::DataplanePath;
 use path_fields::HopField;
 use path_hop_fields::run;
 use path_hop_fields::view::read_ends;
+ghost use mathlib.Core.Path.{_≡_};
+ghost use Prim.Native.Nat.{_≤_};
+ghost use lib.ListN.{length};
 
 // The numbers of a hop field: flags, expiry byte, construction interfaces, code.
 fn hop_field(field: HopField) {
@@ -32,6 +35,46 @@ pub fn parts(bytes: &[u8]) {
     print::bytes(run::after_first(whole));
     print::bytes(run::last(whole));
     print::bytes(run::before_last(whole));
+}
+
+// How many hop fields are left, and how many bytes these have.
+fn left_over(left: &[u8]) -> usize
+    ensures { λ r. ⌜ r ≡ length (now (left .entry)) ⌝ }
+{
+    print::number(run::count(left) as u64);
+    left.len()
+}
+
+// A read at the front (`f`) or at the back: the hop field, `-` where none is left, and how many are left; answers how many bytes these have.
+fn read_at(left: &[u8], end: u8) -> usize
+    ensures { λ r. ⌜ r ≤ length (now (left .entry)) ⌝ }
+{
+    if end == b'f' {
+        print::bytes(run::first(left));
+        return left_over(run::after_first(left));
+    }
+    print::bytes(run::last(left));
+    left_over(run::before_last(left))
+}
+
+// `reads B S`: whether B is a run, and how many hop fields it has; then a read for each letter of S, `f` at the front and `b` at the back.
+// The view's `next`, `next_back` and `len` are by contract the functions of `run` that are called here.
+pub fn reads(bytes: &[u8], order: &[u8]) {
+    print::answer(run::check(bytes));
+    let whole = run::whole(bytes);
+    let mut start: usize = 0;
+    let mut end = left_over(whole);
+    let mut i: usize = 0;
+    while i < order.len() {
+        let letter = order[i];
+        let left = read_at(&whole[start..end], letter);
+        i += 1;
+        if letter == b'f' {
+            start = end - left;
+            continue;
+        }
+        end = start + left;
+    }
 }
 
 // `hops T B`: whether the path has hop fields, how many, and their bytes.

@@ -1,11 +1,19 @@
 // Calls on numbers on the wire, bounded numbers and addresses.
 use crate::print;
 use crate::words;
+use address::host::HostAddr;
 use address::host::HostKind;
 use address::host::HostType;
 use address::host::HostTypeRead;
 use address::ia::IsdAsn;
+use address::ia::NewIsdAsn;
 use address::service::ServiceAddr;
+use packet_common_header::AddressInfo;
+use packet_common_header::CommonHeader;
+use path::dataplane::DataplanePath;
+use path_fields::HopField;
+use path_fields::InfoField;
+use path_meta_header::PathMetaHeader;
 use wire_encoding::bounded::NewU2;
 use wire_encoding::bounded::NewU4;
 use wire_encoding::bounded::NewU6;
@@ -94,21 +102,30 @@ pub fn isdasn(line: &[u8]) {
     print::flag(isd_asn.is_wildcard());
 }
 
-// `service n`: whether it is multicast, and its number with that bit set and cleared.
+// `newisdasn i a`: the network number of ISD i and AS a, or 10 where a has more than 48 bits.
+pub fn new_isdasn(line: &[u8]) {
+    match IsdAsn::new(words::u16_at(line, 1), words::u64_at(line, 2)) {
+        NewIsdAsn::Value(isd_asn) => print::two(0, isd_asn.to_u64()),
+        NewIsdAsn::TooWide => print::two(10, 0),
+    }
+}
+
+// `service n`: whether it is multicast, whether it is anycast, and its number with the multicast bit set and cleared.
 pub fn service(line: &[u8]) {
     let service = ServiceAddr(words::u16_at(line, 1));
     print::flag(service.is_multicast());
+    print::flag(service.is_anycast());
     let multicast = service.multicast();
     print::number(multicast.0 as u64);
     let anycast = service.anycast();
     print::number(anycast.0 as u64);
 }
 
-// `hosttype n`: whether the byte names a type.
+// `hosttype n`: the number of the type that a byte names, after 1; 0 where it names none.
 pub fn hosttype(line: &[u8]) {
     match HostType::from_byte(words::u8_at(line, 1)) {
-        HostTypeRead::Known(_) => print::flag(true),
-        HostTypeRead::Unknown => print::flag(false),
+        HostTypeRead::Known(known) => print::two(1, known.to_byte() as u64),
+        HostTypeRead::Unknown => print::two(0, 0),
     }
 }
 
@@ -125,5 +142,53 @@ pub fn hostkind(line: &[u8]) {
     match HostType::from_byte(words::u8_at(line, 1)) {
         HostTypeRead::Known(known) => kind(known.kind()),
         HostTypeRead::Unknown => print::two(0, 0),
+    }
+}
+
+// A host's type and its kind on the wire.
+fn type_and_kind(host: HostAddr) {
+    print::byte(host.host_type().to_byte());
+    print::byte(host.kind());
+}
+
+// `hostlength k`: how many bytes a host of kind k takes; for kinds 0, 3 and 4 then the number of its type, and k.
+pub fn hostlength(line: &[u8]) {
+    let kind = words::u8_at(line, 1);
+    print::number(AddressInfo(kind).address_length() as u64);
+    match kind {
+        0 => type_and_kind(HostAddr::V4),
+        3 => type_and_kind(HostAddr::V6),
+        4 => type_and_kind(HostAddr::Svc(ServiceAddr(0))),
+        _ => print::two(0, 0),
+    }
+}
+
+// `constant k`: a constant of the library, by its place in this list; 0 beyond it.
+pub fn constant(k: u8) {
+    match k {
+        0 => print::two(U2::BITS as u64, U2::MAX as u64),
+        1 => print::two(U4::BITS as u64, U4::MAX as u64),
+        2 => print::two(U6::BITS as u64, U6::MAX as u64),
+        3 => print::two(U20::BITS as u64, U20::MAX as u64),
+        4 => print::two(PathMetaHeader::LENGTH as u64, DataplanePath::MAX_LEN as u64),
+        5 => print::two(InfoField::LENGTH as u64, HopField::LENGTH as u64),
+        6 => print::two(
+            InfoField::CONSTRUCTION_DIRECTION_FLAG as u64,
+            InfoField::PEERING_FLAG as u64,
+        ),
+        7 => print::two(
+            CommonHeader::LENGTH as u64,
+            CommonHeader::HEADER_LENGTH_MULTIPLICAND as u64,
+        ),
+        8 => print::two(
+            CommonHeader::MAX_HEADER_LENGTH as u64,
+            HostAddr::MAX_ADDRESS_BYTES as u64,
+        ),
+        9 => print::two(DataplanePath::EMPTY as u64, DataplanePath::SCION as u64),
+        10 => print::two(IsdAsn::WILDCARD.to_u64(), IsdAsn::MAX.to_u64()),
+        11 => print::two(IsdAsn::BITS as u64, IsdAsn::ASN_BITS as u64),
+        12 => print::two(ServiceAddr::DAEMON.0 as u64, ServiceAddr::CONTROL.0 as u64),
+        13 => print::two(ServiceAddr::WILDCARD.0 as u64, 0),
+        _ => print::two(0, 0),
     }
 }

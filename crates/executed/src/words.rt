@@ -48,7 +48,7 @@ fn part(text: &[u8], k: usize, separator: u8) -> &[u8] {
 }
 
 // Word `k` of a line, counted from 0; empty where there is no such word.
-fn word(line: &[u8], k: usize) -> &[u8] {
+pub fn word(line: &[u8], k: usize) -> &[u8] {
     part(line, k, b' ')
 }
 
@@ -157,11 +157,28 @@ fn is_byte(word: &[u8], byte: u8) -> bool {
     word[0] == byte
 }
 
-// Whether a word is of a kind: `s` a byte string, `f` a flag; `b`, `h`, `w` and `n` a number of 8, 16, 32 and 64 bits;
-// a digit that digit itself, `t` the number 20.
+// Whether a word is an order of reads: `f` for each at the front, `b` for each at the back, in the order they are made.
+fn is_order(word: &[u8]) -> bool {
+    if word.len() == 0 {
+        return false;
+    }
+    let mut i: usize = 0;
+    while i < word.len() {
+        match word[i] {
+            b'f' | b'b' => {}
+            _ => return false,
+        }
+        i += 1;
+    }
+    true
+}
+
+// Whether a word is of a kind: `s` a byte string, `o` an order of reads, `f` a flag; `b`, `h`, `w` and `n` a number of 8, 16, 32 and 64
+// bits; a digit that digit itself, `t` the number 20.
 fn is_of_kind(word: &[u8], kind: u8) -> bool {
     match kind {
         b's' => is_bytes(word),
+        b'o' => is_order(word),
         b'0'..=b'9' => is_byte(word, kind),
         b't' => same(word, b"20"),
         b'f' => is_number(word, 1),

@@ -1,17 +1,19 @@
 //! Lines on meta headers, fields, bounded numbers and addresses, which the library's C interface does not have.
 
 use bytes::{Buf, BufMut};
-use scion_rs::address::{HostType, IsdAsn, ServiceAddr};
-use scion_rs::packet::{AddressInfo, FlowId, Version};
+use scion_rs::address::{Asn, HostAddr, HostType, Isd, IsdAsn, ServiceAddr};
+use scion_rs::packet::{AddressInfo, CommonHeader, FlowId, Version};
 use scion_rs::path::standard::{
     HopField, HopFieldIndex, InfoField, InfoFieldIndex, PathMetaHeader, PathMetaReserved, SegmentLength,
 };
-use scion_rs::wire_encoding::{WireDecode, WireEncode};
+use scion_rs::path::{DataplanePath, PathType};
+use scion_rs::wire_encoding::{MaybeEncoded, WireDecode, WireEncode};
 
 use super::Line;
 use super::paths::add_record;
 use crate::oracle::path::Oracle;
 use crate::oracle::{number_of, panics, record, refusal};
+use crate::tally::{Exception, Source};
 
 /// The meta header of six numbers; none where one is too wide.
 fn header(numbers: [u8; 6]) -> Option<PathMetaHeader> {
@@ -82,7 +84,10 @@ fn encode(line: &mut Line) {
     let mut dst = line.bytes(7);
     let number = match header_at(line) {
         None => 10,
-        Some(_) if dst.len() > 4 => 9,
+        Some(_) if dst.len() > 4 => {
+            line.except(Exception::LongerEncoderDestination);
+            9
+        }
         Some(meta) => meta.encode_to(&mut &mut dst[..]).map_or(9, |()| 0),
     };
     line.add(number).add_bytes(&dst);
@@ -95,18 +100,35 @@ fn ifhop(line: &mut Line) -> bool {
     if index < meta.interfaces_count() {
         line.add(0).add(meta.hop_field_index_for_interface(index));
     } else {
+        line.except(Exception::InterfaceBeyondCount);
         line.add(8).add(0);
     }
     true
+}
+
+/// An offset by the Rust, where there is such a field. Where there is none it has to be past the path, and where the sum does
+/// not fit 64 bits the debug build has to panic: this is what the exception says.
+fn offset_at(is_there: bool, sum: u128, offset: impl Fn() -> usize) -> Option<usize> {
+    if is_there {
+        return Some(offset());
+    }
+    let has_panicked = panics(|| assert_eq!(offset(), sum as usize, "the sum, or what 64 bits keep of it"));
+    assert_eq!(has_panicked, sum >= 1 << 64 && cfg!(debug_assertions), "the Rust at an offset beyond the count");
+    None
 }
 
 /// `offset a b c i`: 8 where there is no such field, as document 01 has it.
 fn offset(line: &mut Line) -> bool {
     let Some(meta) = lengths_at(line) else { return false };
     let index = line.index(4);
-    let info = (index < meta.info_fields_count()).then(|| PathMetaHeader::info_field_offset(index));
-    let hop = (index < meta.hop_fields_count()).then(|| meta.hop_field_offset(index));
+    let (infos, hops) = (meta.info_fields_count(), meta.hop_fields_count());
+    let info = offset_at(index < infos, 4 + 8 * index as u128, || PathMetaHeader::info_field_offset(index));
+    let start = 4 + 8 * infos as u128;
+    let hop = offset_at(index < hops, start + 12 * index as u128, || meta.hop_field_offset(index));
     for at in [info, hop] {
+        if at.is_none() {
+            line.except(Exception::OffsetBeyondCount);
+        }
         line.add(if at.is_some() { 0 } else { 8 }).add(at.unwrap_or(0));
     }
     true
@@ -130,6 +152,7 @@ fn headers(line: &mut Line) -> bool {
 fn info(line: &mut Line) {
     let bytes = line.bytes(1);
     if panics(|| _ = InfoField::new(&bytes)) {
+        line.except(Exception::PanickingSize);
         line.add("9 0 0 0 0 0 0");
         return;
     }
@@ -142,6 +165,7 @@ fn info(line: &mut Line) {
 fn hop(line: &mut Line) {
     let bytes = line.bytes(1);
     if panics(|| _ = HopField::new(&bytes)) {
+        line.except(Exception::PanickingSize);
         line.add("9 0 0 0 0 0 000000000000 337500");
         return;
     }
@@ -266,6 +290,9 @@ fn get(line: &mut Line) {
             _ => rest.get_u64(),
         };
     });
+    if is_short {
+        line.except(Exception::PanickingSize);
+    }
     line.add(u8::from(is_short)).add(value);
 }
 
@@ -280,6 +307,9 @@ fn put(line: &mut Line) {
             _ => rest.put_u64(number),
         }
     });
+    if is_short {
+        line.except(Exception::PanickingSize);
+    }
     line.add(if is_short { 9 } else { 0 }).add_bytes(&bytes);
 }
 
@@ -301,21 +331,74 @@ fn isdasn(line: &mut Line) {
     line.add(ia.isd().to_u16()).add(ia.asn().to_u64()).add_flag(ia.is_wildcard());
 }
 
+/// `newisdasn i a`: an AS number of more than 48 bits gets 10, for the Rust's file of AS numbers is not at hand.
+fn new_isdasn(line: &mut Line) {
+    let (isd, asn) = (line.number(1) as u16, line.number(2));
+    if asn >> Asn::BITS != 0 {
+        line.source = Source::Model;
+        line.add(10).add(0);
+        return;
+    }
+    line.add(0).add(IsdAsn::new(Isd::new(isd), Asn::new(asn)).to_u64());
+}
+
 /// `service n`.
 fn service(line: &mut Line) {
     let service = ServiceAddr(line.number(1) as u16);
-    line.add_flag(service.is_multicast()).add(service.multicast().0).add(service.anycast().0);
+    line.add_flag(service.is_multicast()).add_flag(service.is_anycast());
+    line.add(service.multicast().0).add(service.anycast().0);
 }
 
 /// `hosttype n` and `hostkind n`.
 fn host(line: &mut Line) {
     let known = HostType::from_byte(line.byte(1));
     if line.words[0] == "hosttype" {
-        line.add_flag(known.is_some());
+        line.add_flag(known.is_some()).add(known.map_or(0, u8::from));
         return;
     }
     let kind = known.and_then(AddressInfo::from_host_type);
     line.add_flag(kind.is_some()).add(kind.map_or(0, |kind| kind.get()));
+}
+
+/// `hostlength k`: the Rust has no host kinds of more than 4 bits.
+fn hostlength(line: &mut Line) -> bool {
+    let Some(kind) = AddressInfo::new(line.byte(1)) else { return false };
+    line.add(kind.address_length());
+    let MaybeEncoded::Decoded(named) = kind.host_type() else {
+        line.add(0).add(0);
+        return true;
+    };
+    let host = match named {
+        HostType::Ipv4 => HostAddr::V4([0; 4].into()),
+        HostType::Ipv6 => HostAddr::V6([0; 16].into()),
+        _ => HostAddr::Svc(ServiceAddr(0)),
+    };
+    line.add(u8::from(named)).add(AddressInfo::for_host(&host).get());
+    true
+}
+
+/// `constant k`.
+fn constant(line: &mut Line) {
+    let bounds = |bits: u32, most: u64| (u64::from(bits), most);
+    let sizes = |first: usize, second: usize| (first as u64, second as u64);
+    let (first, second) = match line.number(1) {
+        0 => bounds(InfoFieldIndex::BITS, InfoFieldIndex::MAX.get().into()),
+        1 => bounds(Version::BITS, Version::MAX.get().into()),
+        2 => bounds(HopFieldIndex::BITS, HopFieldIndex::MAX.get().into()),
+        3 => bounds(FlowId::BITS, FlowId::MAX.get().into()),
+        4 => sizes(PathMetaHeader::LENGTH, <DataplanePath>::MAX_LEN),
+        5 => sizes(InfoField::LENGTH, HopField::LENGTH),
+        6 => (InfoField::CONSTRUCTION_DIRECTION_FLAG.into(), InfoField::PEERING_FLAG.into()),
+        7 => sizes(CommonHeader::LENGTH, CommonHeader::HEADER_LENGTH_MULTIPLICAND),
+        8 => sizes(CommonHeader::MAX_HEADER_LENGTH, AddressInfo::MAX_ADDRESS_BYTES),
+        9 => (u8::from(PathType::Empty).into(), u8::from(PathType::Scion).into()),
+        10 => (IsdAsn::WILDCARD.to_u64(), IsdAsn::MAX.to_u64()),
+        11 => bounds(IsdAsn::BITS, Asn::BITS.into()),
+        12 => (ServiceAddr::DAEMON.0.into(), ServiceAddr::CONTROL.0.into()),
+        13 => (ServiceAddr::WILDCARD.0.into(), 0),
+        _ => (0, 0),
+    };
+    line.add(first).add(second);
 }
 
 /// Calls on numbers and addresses.
@@ -325,8 +408,11 @@ fn values(line: &mut Line) -> bool {
         "put" => put(line),
         "bounded" => bounded(line),
         "isdasn" => isdasn(line),
+        "newisdasn" => new_isdasn(line),
         "service" => service(line),
         "hosttype" | "hostkind" => host(line),
+        "hostlength" => return hostlength(line),
+        "constant" => constant(line),
         _ => return false,
     }
     true

@@ -2,6 +2,10 @@
 
 use scion_proto::{Answer, Ends, Headers, Host};
 
+use scion_rs::address::{HostAddr, IsdAsn, ScionAddr};
+use scion_rs::packet::{AddressHeader, ByEndpoint};
+use scion_rs::wire_encoding::MaybeEncoded;
+
 use super::Line;
 use super::paths::add_record;
 use crate::oracle::{headers, packet, write};
@@ -56,8 +60,9 @@ fn read(line: &mut Line) {
 /// `new next payload flow type E P D`: the factor of headers made for ends E and path bytes P, and the headers written to D.
 fn new(line: &mut Line) {
     let (ends, path, mut dst) = (ends_at(line, 5), line.bytes(13), line.bytes(14));
-    let made = write::new_headers(&ends, line.byte(4), &path, line.byte(1), line.index(2), line.number(3) as u32);
-    let (answer, _) = write::write_headers(&made, &path, &mut dst);
+    let (made, _) = write::new_headers(&ends, line.byte(4), &path, line.byte(1), line.index(2), line.number(3) as u32);
+    let (answer, source) = write::write_new_headers(&ends, &made, &path, &mut dst);
+    line.source = source;
     line.add(made.header_length_factor).add(answer.number).add_bytes(&dst);
 }
 
@@ -79,8 +84,9 @@ fn write_headers(line: &mut Line) {
         source: ends.source,
     };
     let (path, mut dst) = (line.bytes(17), line.bytes(18));
-    let (answer, _) = write::write_headers(&headers, &path, &mut dst);
-    line.add(write::headers_length(&headers, &path)).add(answer.number).add_bytes(&dst);
+    let (answer, source) = write::write_headers(&headers, &path, &mut dst);
+    line.source = source;
+    line.add(write::headers_length(&headers, &path).0).add(answer.number).add_bytes(&dst);
 }
 
 /// Adds a number, a value, and a common header's fields.
@@ -116,26 +122,75 @@ fn put_common(line: &mut Line) {
         reserved: line.number(10) as u16,
     };
     let mut dst = line.bytes(11);
-    let answer = headers::write_common(&fields, &mut dst);
+    let (answer, source) = headers::write_common(&fields, &mut dst);
+    line.source = source;
     line.add(answer.number).add_bytes(&dst);
 }
 
-/// `address K L B`: the networks and hosts of kinds K and L, how many bytes they take, and whether each host has a name.
+/// Adds an address: its network, its host's kind, a service's number, all 16 bytes.
+fn add_scion_address(line: &mut Line, address: &ScionAddr) {
+    line.add(address.isd_asn().to_u64());
+    add_host(line, &packet::host(&MaybeEncoded::Decoded(address.host()), address.address_info()));
+}
+
+/// Adds whether an end's host has a name, and then its address; one of zeros where it has none.
+fn add_end(line: &mut Line, end: Option<ScionAddr>) {
+    let zero = ScionAddr::new(IsdAsn(0), HostAddr::V4([0; 4].into()));
+    line.add_flag(end.is_some());
+    add_scion_address(line, &end.unwrap_or(zero));
+}
+
+/// `address K L B`: the networks and hosts of kinds K and L, how many bytes they take, and each end's address where its host
+/// has a name; the zero header of a refusal has two IPv4 hosts.
 fn address(line: &mut Line) {
     let (bytes, kinds) = (line.bytes(3), (line.byte(1), line.byte(2)));
     let (answer, ends, length) = headers::read_address(&bytes, kinds.0, kinds.1);
     line.add(answer.number).add(answer.value);
     add_ends(line, &ends);
     line.add(length);
-    for known in headers::are_known(&bytes, kinds.0, kinds.1) {
-        line.add_flag(known);
+    for end in headers::named_ends(&bytes, kinds.0, kinds.1) {
+        add_end(line, end);
     }
+}
+
+/// The address of a network and of the host in words k to k + 2, which has a name.
+fn scion_address_at(line: &Line, ia: u64, k: usize) -> Option<ScionAddr> {
+    Some(ScionAddr::new(IsdAsn(ia), write::known_host(&host_at(line, k))?))
+}
+
+/// `endhost n H m K`: the address of host H in network n; with network m set; and then with host K set.
+fn endhost(line: &mut Line) -> bool {
+    let made = scion_address_at(line, line.number(1), 2);
+    let (Some(mut address), Some(other)) = (made, scion_address_at(line, 0, 6)) else { return false };
+    add_scion_address(line, &address);
+    address.set_isd_asn(IsdAsn(line.number(5)));
+    add_scion_address(line, &address);
+    address.set_host(other.host());
+    add_scion_address(line, &address);
+    true
+}
+
+/// `newaddr E D`: the length of the address header made of two ends whose hosts have names, and the header written to D.
+fn new_address(line: &mut Line) -> bool {
+    let destination = scion_address_at(line, line.number(1), 3);
+    let (Some(destination), Some(source)) = (destination, scion_address_at(line, line.number(2), 6)) else {
+        return false;
+    };
+    let ends = ByEndpoint { source, destination };
+    let header = AddressHeader::new(ends.map(ScionAddr::isd_asn), ends.map(ScionAddr::host));
+    assert_eq!(header, AddressHeader::from(ends));
+    let mut dst = line.bytes(9);
+    let (length, answer, source) = headers::length_and_write(&header, &mut dst);
+    line.source = source;
+    line.add(length).add(answer.number).add_bytes(&dst);
+    true
 }
 
 /// `putaddress E D`: networks and hosts written to D.
 fn put_address(line: &mut Line) {
     let (ends, mut dst) = (ends_at(line, 1), line.bytes(9));
-    let answer = headers::write_address(&ends, &mut dst);
+    let (answer, source) = headers::write_address(&ends, &mut dst);
+    line.source = source;
     line.add(answer.number).add_bytes(&dst);
 }
 
@@ -148,6 +203,8 @@ pub fn answer(line: &mut Line) -> bool {
         // The Rust has no host kinds of more than 4 bits.
         "address" if line.number(1) < 16 && line.number(2) < 16 => address(line),
         "putaddress" => put_address(line),
+        "endhost" => return endhost(line),
+        "newaddr" => return new_address(line),
         "new" => new(line),
         "write" => write_headers(line),
         _ => return false,

@@ -5,6 +5,7 @@ use scion_proto::{Answer, Part, Path};
 use super::Line;
 use crate::model;
 use crate::oracle::path::Oracle;
+use crate::tally::Source;
 
 /// Adds a number and a value.
 fn add_answer(line: &mut Line, answer: Answer) {
@@ -41,6 +42,10 @@ fn view(line: &mut Line, name: &str, oracle: &Oracle, bytes: &[u8]) -> bool {
             line.add(read.length);
             add_record(line, read.path);
         }
+        "raw" => {
+            let length = oracle.length();
+            line.add_bytes(&bytes[..length]);
+        }
         "locinfo" => {
             let field = oracle.info_field(line.index(3));
             add_located(line, field.answer, field.start, 8, bytes);
@@ -73,7 +78,8 @@ fn times(line: &mut Line, name: &str, oracle: &Oracle) -> bool {
             line.add(oracle.expiry().ms);
         }
         "left" => {
-            let left = oracle.time_left(line.number(3));
+            let (left, source) = oracle.time_left(line.number(3));
+            line.source = source;
             add_answer(line, left.answer);
             line.add(left.ms);
         }
@@ -82,9 +88,10 @@ fn times(line: &mut Line, name: &str, oracle: &Oracle) -> bool {
             line.add(oracle.interfaces_count().count);
         }
         "iface" => {
-            let (interface, _) = oracle.interface(line.index(3));
+            let (interface, source) = oracle.interface(line.index(3));
+            line.source = source;
             add_answer(line, interface.answer);
-            line.add(interface.hop_field).add(interface.interface);
+            line.add(interface.hop_field).add(interface.id);
         }
         _ => return false,
     }
@@ -99,8 +106,12 @@ fn change(line: &mut Line, name: &str, oracle: &Oracle, mut bytes: Vec<u8>) -> b
             let answer = oracle.set_alert(line.index(3), is_ingress, on, &mut bytes).answer;
             add_answer(line, answer);
         }
-        "move" => add_answer(line, model::single_move(oracle, &mut bytes).answer),
+        "move" => {
+            line.source = Source::Model;
+            add_answer(line, model::single_move(oracle, &mut bytes).answer);
+        }
         "walk" => {
+            line.source = Source::Model;
             let walk = model::walk(oracle, &mut bytes, line.index(3));
             add_answer(line, walk.answer);
             line.add(walk.moves).add(walk.arrived);
@@ -113,21 +124,21 @@ fn change(line: &mut Line, name: &str, oracle: &Oracle, mut bytes: Vec<u8>) -> b
 
 /// Calls that write to a destination, word 3.
 fn write(line: &mut Line, name: &str, oracle: &Oracle) -> bool {
-    let answer = match name {
-        "copy" => |oracle: &Oracle, dst: &mut [u8]| oracle.copy_path(dst).0.answer,
-        "turn" => |oracle: &Oracle, dst: &mut [u8]| oracle.reverse_path(dst).0.answer,
+    let mut dst = line.bytes(3);
+    let (answer, source) = match name {
+        "copy" => oracle.copy_path(&mut dst),
+        "turn" => oracle.reverse_path(&mut dst),
         _ => return false,
     };
-    let mut dst = line.bytes(3);
-    let answer = answer(oracle, &mut dst);
-    add_answer(line, answer);
+    line.source = source;
+    add_answer(line, answer.answer);
     line.add_bytes(&dst);
     true
 }
 
-const NAMES: [&str; 14] = [
-    "path", "locinfo", "lochop", "segment", "segexp", "pathexp", "left", "ifcount", "iface", "alert", "move", "walk",
-    "copy", "turn",
+const NAMES: [&str; 15] = [
+    "path", "raw", "locinfo", "lochop", "segment", "segexp", "pathexp", "left", "ifcount", "iface", "alert", "move",
+    "walk", "copy", "turn",
 ];
 
 /// Answers a line of this file; whether it is one.
@@ -138,6 +149,7 @@ pub fn answer(line: &mut Line) -> bool {
     }
     let bytes = line.bytes(2);
     let oracle = Oracle::new(line.byte(1), &bytes);
+    line.source = if ["path", "raw"].contains(&name.as_str()) { Source::Rust } else { oracle.source() };
     view(line, &name, &oracle, &bytes)
         || times(line, &name, &oracle)
         || change(line, &name, &oracle, bytes.clone())

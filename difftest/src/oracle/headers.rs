@@ -1,14 +1,16 @@
 //! Common and address headers alone, by the Rust: for the stored list, as the C interface has only whole headers.
 
 use scion_proto::{Answer, Ends};
-use scion_rs::address::IsdAsn;
+use scion_rs::address::{HostAddr, IsdAsn, ScionAddr};
 use scion_rs::packet::{AddressHeader, AddressInfo, ByEndpoint, CommonHeader, FlowId, Version};
 use scion_rs::path::PathType;
 use scion_rs::wire_encoding::{WireDecode, WireDecodeWithContext, WireEncode};
 
 use super::packet::host;
+use super::path::Expected;
 use super::write::{factor, rust_host};
 use super::{ACCEPTED, number_of, refusal};
+use crate::tally::{Exception, Source};
 
 /// The fields of a common header, as wide as a caller may give them.
 #[derive(Default)]
@@ -48,26 +50,27 @@ pub fn read_common(bytes: &[u8]) -> (Answer, Common) {
 
 /// The lengths of all headers, of those after the common header, and of the payload; zeros where it is refused.
 pub fn lengths(bytes: &[u8]) -> [usize; 3] {
-    CommonHeader::decode(&mut &bytes[..]).map_or([0; 3], |header| {
-        [header.header_length(), header.remaining_header_length(), header.payload_size()]
-    })
+    CommonHeader::decode(&mut &bytes[..])
+        .map_or([0; 3], |header| [header.header_length(), header.remaining_header_length(), header.payload_size()])
 }
 
-/// The Rust's common header of these fields, or document 01's first refusal.
-fn common(fields: &Common) -> Result<CommonHeader, Answer> {
-    let version = Version::new(fields.version).ok_or(refusal(10))?;
-    let flow_id = FlowId::new(fields.flow_id).ok_or(refusal(10))?;
+/// The Rust's common header of these fields, or document 01's first refusal; 10 is the Rust's, the others' numbers have no
+/// room in its types.
+fn common(fields: &Common) -> Result<CommonHeader, Expected<Answer>> {
+    let wide = (refusal(10), Source::Rust);
+    let version = Version::new(fields.version).ok_or(wide)?;
+    let flow_id = FlowId::new(fields.flow_id).ok_or(wide)?;
     let address_info = ByEndpoint {
-        source: AddressInfo::new(fields.source_kind).ok_or(refusal(10))?,
-        destination: AddressInfo::new(fields.destination_kind).ok_or(refusal(10))?,
+        source: AddressInfo::new(fields.source_kind).ok_or(wide)?,
+        destination: AddressInfo::new(fields.destination_kind).ok_or(wide)?,
     };
     Ok(CommonHeader {
         version,
         traffic_class: fields.traffic_class,
         flow_id,
         next_header: fields.next_header,
-        header_length_factor: factor(fields.header_length_factor)?,
-        payload_length: fields.payload_length.try_into().map_err(|_| refusal(11))?,
+        header_length_factor: factor(fields.header_length_factor).map_err(|answer| (answer, Source::Model))?,
+        payload_length: fields.payload_length.try_into().map_err(|_| (refusal(11), Source::Model))?,
         path_type: PathType::from(fields.path_type),
         address_info,
         reserved: fields.reserved,
@@ -75,18 +78,24 @@ fn common(fields: &Common) -> Result<CommonHeader, Answer> {
 }
 
 /// Writes to a destination of the exact size; a longer one gets 9, as document 01 has it.
-fn write(header: &impl WireEncode, dst: &mut [u8]) -> Answer {
+fn write(header: &impl WireEncode, dst: &mut [u8]) -> Expected<Answer> {
     if dst.len() > header.encoded_length() {
-        return refusal(9);
+        return (refusal(9), Source::Excepted(Exception::LongerEncoderDestination));
     }
-    header.encode_to(&mut &mut dst[..]).map_or(refusal(9), |()| ACCEPTED)
+    (header.encode_to(&mut &mut dst[..]).map_or(refusal(9), |()| ACCEPTED), Source::Rust)
+}
+
+/// How many bytes an address header takes, and the header written.
+pub fn length_and_write(header: &AddressHeader, dst: &mut [u8]) -> (usize, Answer, Source) {
+    let (answer, source) = write(header, dst);
+    (header.encoded_length(), answer, source)
 }
 
 /// A common header written.
-pub fn write_common(fields: &Common, dst: &mut [u8]) -> Answer {
+pub fn write_common(fields: &Common, dst: &mut [u8]) -> Expected<Answer> {
     match common(fields) {
         Ok(header) => write(&header, dst),
-        Err(answer) => answer,
+        Err(refused) => refused,
     }
 }
 
@@ -108,18 +117,19 @@ pub fn read_address(bytes: &[u8], destination_kind: u8, source_kind: u8) -> (Ans
     }
 }
 
-/// Whether the destination's and the source's host have a name; the zero header of a refusal has two IPv4 hosts.
-pub fn are_known(bytes: &[u8], destination_kind: u8, source_kind: u8) -> [bool; 2] {
+/// The destination's and the source's address, where their hosts have names; those of a refusal are zero.
+pub fn named_ends(bytes: &[u8], destination_kind: u8, source_kind: u8) -> [Option<ScionAddr>; 2] {
     let kinds = ByEndpoint { source: AddressInfo::new(source_kind), destination: AddressInfo::new(destination_kind) };
     let kinds = kinds.map(|kind| kind.expect("a kind of 4 bits"));
+    let zero = ScionAddr::new(IsdAsn(0), HostAddr::V4([0; 4].into()));
     AddressHeader::decode_with_context(&mut &bytes[..], kinds)
-        .map_or([true; 2], |header| [header.destination().is_some(), header.source().is_some()])
+        .map_or([Some(zero); 2], |header| [header.destination(), header.source()])
 }
 
 /// An address header written.
-pub fn write_address(ends: &Ends, dst: &mut [u8]) -> Answer {
+pub fn write_address(ends: &Ends, dst: &mut [u8]) -> Expected<Answer> {
     let (Some(destination), Some(source)) = (rust_host(&ends.destination), rust_host(&ends.source)) else {
-        return refusal(10);
+        return (refusal(10), Source::Rust);
     };
     let ia = ByEndpoint { source: IsdAsn(ends.source_ia), destination: IsdAsn(ends.destination_ia) };
     write(&AddressHeader { ia, host: ByEndpoint { source, destination } }, dst)

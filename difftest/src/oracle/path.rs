@@ -9,7 +9,7 @@ use scion_rs::path::{DataplanePath, PathType, StandardPath};
 use scion_rs::wire_encoding::WireDecodeWithContext;
 
 use super::{ACCEPTED, Refused, lend, number_of, offset, panics, record, refusal};
-use crate::tally::Exception;
+use crate::tally::{Exception, Source};
 
 /// The largest now of document 01.
 pub const LATEST_NOW: u64 = 9_000_000_000_000;
@@ -20,8 +20,8 @@ pub struct Oracle<'a> {
     read: Result<DataplanePath<Bytes>, Answer>,
 }
 
-/// What a call answers, and under which exception if any.
-pub type Expected<T> = (T, Option<Exception>);
+/// What a call is to answer, and whose answer that is.
+pub type Expected<T> = (T, Source);
 
 impl<'a> Oracle<'a> {
     /// Reads a path; the length beside its type is the byte count.
@@ -53,6 +53,14 @@ impl<'a> Oracle<'a> {
             Ok(DataplanePath::Standard(path)) => Ok(path),
             Ok(_) => Err(refusal(8)),
             Err(answer) => Err(*answer),
+        }
+    }
+
+    /// Whose the answers to views are: document 01's for other types, where the Rust has none.
+    pub fn source(&self) -> Source {
+        match &self.read {
+            Ok(DataplanePath::Standard(_)) | Err(_) => Source::Rust,
+            Ok(_) => Source::Model,
         }
     }
 
@@ -151,15 +159,15 @@ impl<'a> Oracle<'a> {
     }
 
     /// The Rust's expiry less now: added by document 01, as is its bound on now.
-    pub fn time_left(&self, now: u64) -> TimeLeft {
+    pub fn time_left(&self, now: u64) -> Expected<TimeLeft> {
         let expiry = self.expiry();
         if expiry.answer != ACCEPTED {
-            return TimeLeft::refused(expiry.answer);
+            return (TimeLeft::refused(expiry.answer), self.source());
         }
         if now > LATEST_NOW {
-            return TimeLeft::refused(refusal(10));
+            return (TimeLeft::refused(refusal(10)), Source::Model);
         }
-        TimeLeft { answer: ACCEPTED, path: expiry.path, ms: expiry.ms as i64 - now as i64 }
+        (TimeLeft { answer: ACCEPTED, path: expiry.path, ms: expiry.ms as i64 - now as i64 }, Source::Model)
     }
 
     /// How many interfaces there are.
@@ -175,17 +183,17 @@ impl<'a> Oracle<'a> {
     pub fn interface(&self, index: usize) -> Expected<Interface> {
         let path = match self.standard() {
             Ok(path) => path,
-            Err(answer) => return (Interface::refused(answer), None),
+            Err(answer) => return (Interface::refused(answer), self.source()),
         };
         if index >= path.meta_header().interfaces_count() {
-            return (Interface::refused(refusal(8)), Some(Exception::InterfaceBeyondCount));
+            return (Interface::refused(refusal(8)), Source::Excepted(Exception::InterfaceBeyondCount));
         }
         let hop_field = path.meta_header().hop_field_index_for_interface(index);
         let field = path.hop_fields().nth(hop_field).expect("a hop field below the count");
         let info = self.info_of(hop_field);
         let id = if index % 2 == 0 { field.egress_interface(info) } else { field.ingress_interface(info) };
-        let interface = id.map_or(0, |id| id.get());
-        (Interface { answer: ACCEPTED, path: self.record(), hop_field, interface }, None)
+        let id = id.map_or(0, |id| id.get());
+        (Interface { answer: ACCEPTED, path: self.record(), hop_field, id }, Source::Rust)
     }
 
     /// The info field of the segment that a hop field stands in.
@@ -242,15 +250,15 @@ impl<'a> Oracle<'a> {
     ) -> Expected<PathAnswer> {
         let path = match &self.read {
             Ok(path) => path,
-            Err(answer) => return (PathAnswer::refused(*answer), None),
+            Err(answer) => return (PathAnswer::refused(*answer), Source::Rust),
         };
         let is_exact = path.is_empty() || dst.len() == path.raw().len();
         if is_exact {
-            return (call(path, dst), None);
+            return (call(path, dst), Source::Rust);
         }
         let mut lost = dst.to_vec();
         assert!(panics(|| _ = call(path, &mut lost)), "the Rust took a destination of another size");
-        (PathAnswer::refused(refusal(9)), Some(Exception::PanickingSize))
+        (PathAnswer::refused(refusal(9)), Source::Excepted(Exception::PanickingSize))
     }
 }
 

@@ -11,13 +11,14 @@ use scion_rs::packet::{
 use scion_rs::path::{DataplanePath, Path, PathType};
 use scion_rs::wire_encoding::{MaybeEncoded, WireEncode};
 
+use super::packet::{self, RustHost};
 use super::path::{Expected, Oracle};
-use super::{ACCEPTED, lend, packet::RustHost, refusal};
+use super::{ACCEPTED, lend, refusal};
 use crate::model;
-use crate::tally::Exception;
+use crate::tally::{Exception, Source};
 
 /// A host that the Rust knows by its kind; others are opaque to it.
-fn known_host(host: &Host) -> Option<HostAddr> {
+pub fn known_host(host: &Host) -> Option<HostAddr> {
     let [a, b, c, d, ..] = host.bytes;
     match host.kind {
         0 => Some(HostAddr::V4([a, b, c, d].into())),
@@ -49,7 +50,8 @@ fn rust_path(path_type: u8, bytes: &[u8]) -> Option<DataplanePath<Bytes>> {
     }
 }
 
-/// The headers that are to be made: what `ScionHeaders::new` makes where it makes some, else by document 01's rule.
+/// The headers that are to be made: what `ScionHeaders::new` makes where it makes some, else by document 01's rule, where
+/// headers are made of any values and refused when they are written.
 pub fn new_headers(
     ends: &Ends,
     path_type: u8,
@@ -57,12 +59,14 @@ pub fn new_headers(
     next_header: u8,
     payload_length: usize,
     flow_id: u32,
-) -> Headers {
-    let expected = model::new_headers(ends, path_type, path.len(), next_header, payload_length, flow_id);
-    if let Some(result) = rust_new(ends, path_type, path, next_header, payload_length, flow_id) {
-        agree(&expected, result);
+) -> Expected<Headers> {
+    match rust_new(ends, path_type, path, next_header, payload_length, flow_id) {
+        Some(Ok(headers)) => (values(&headers), Source::Rust),
+        _ => {
+            let made = model::new_headers(ends, path_type, path.len(), next_header, payload_length, flow_id);
+            (made, Source::Model)
+        }
     }
-    expected
 }
 
 /// `ScionHeaders::new`, where its arguments can be built: hosts that it knows, a flow that fits.
@@ -83,38 +87,37 @@ fn rust_new(
     Some(ScionHeaders::new(&endhosts, &path, next_header, payload_length, FlowId::new(flow_id)?))
 }
 
-/// Stops where the model's headers are not the Rust's: the model would be wrong.
-fn agree(expected: &Headers, result: Result<ScionHeaders, EncodeError>) {
-    match result {
-        Ok(headers) => {
-            assert_eq!(expected.header_length_factor, usize::from(headers.common.header_length_factor.get()));
-            assert_eq!(expected.payload_length, usize::from(headers.common.payload_length));
-            assert_eq!(expected.path_type, u8::from(headers.common.path_type));
-            assert_eq!((expected.version, expected.traffic_class, expected.reserved), (0, 0, 0));
-            assert_eq!(headers.common.version.get(), 0);
-            assert_eq!((headers.common.traffic_class, headers.common.reserved), (0, 0));
-            assert_eq!(headers.common.flow_id.get(), expected.flow_id);
-        }
-        Err(EncodeError::HeaderTooLarge) => assert!(expected.header_length_factor > 255),
-        Err(EncodeError::PayloadTooLarge) => {
-            assert!(expected.header_length_factor <= 255);
-            assert!(expected.payload_length > 65_535);
-        }
+/// Every value of the Rust's headers.
+fn values(headers: &ScionHeaders) -> Headers {
+    let (common, address) = (&headers.common, &headers.address);
+    Headers {
+        version: common.version.get(),
+        traffic_class: common.traffic_class,
+        flow_id: common.flow_id.get(),
+        next_header: common.next_header,
+        header_length_factor: common.header_length_factor.get().into(),
+        payload_length: common.payload_length.into(),
+        path_type: common.path_type.into(),
+        reserved: common.reserved,
+        destination_ia: address.ia.destination.to_u64(),
+        destination: packet::host(&address.host.destination, common.address_info.destination),
+        source_ia: address.ia.source.to_u64(),
+        source: packet::host(&address.host.source, common.address_info.source),
     }
 }
 
 /// How many bytes the headers take by the Rust; by document 01's rule where they can't be built.
-pub fn headers_length(headers: &Headers, path: &[u8]) -> usize {
-    let expected = model::headers_length(headers, path.len());
-    if let Ok((rust, _)) = rust_headers(headers, path) {
-        assert_eq!(expected, rust.encoded_length());
+pub fn headers_length(headers: &Headers, path: &[u8]) -> Expected<usize> {
+    match rust_headers(headers, path) {
+        Ok((rust, _)) => (rust.encoded_length(), Source::Rust),
+        Err(_) => (model::headers_length(headers, path.len()), Source::Model),
     }
-    expected
 }
 
-/// Why the Rust's headers could not be built.
+/// Why the Rust's headers could not be built: a number that its types refuse, one that they have no room for, a path.
 enum Unbuilt {
     Refused(Answer),
+    NoRoom(Answer),
     UnreadPath,
 }
 
@@ -127,8 +130,8 @@ fn rust_headers(headers: &Headers, path: &[u8]) -> Result<(ScionHeaders, bool), 
         source: rust_host(&headers.source).ok_or_else(wide)?,
         destination: rust_host(&headers.destination).ok_or_else(wide)?,
     };
-    let factor = factor(headers.header_length_factor).map_err(Unbuilt::Refused)?;
-    let payload_length = headers.payload_length.try_into().map_err(|_| Unbuilt::Refused(refusal(11)))?;
+    let factor = factor(headers.header_length_factor).map_err(Unbuilt::NoRoom)?;
+    let payload_length = headers.payload_length.try_into().map_err(|_| Unbuilt::NoRoom(refusal(11)))?;
     let path = rust_path(headers.path_type, path).ok_or(Unbuilt::UnreadPath)?;
     let kind = |host: &Host| AddressInfo::new(host.kind).expect("tested above");
     let common = CommonHeader {
@@ -156,20 +159,36 @@ pub fn factor(factor: usize) -> Result<NonZeroU8, Answer> {
 
 /// The headers written by the Rust to `dst`.
 pub fn write_headers(headers: &Headers, path: &[u8], dst: &mut [u8]) -> Expected<Answer> {
-    let (rust, contradicts) = match rust_headers(headers, path) {
-        Ok(built) => built,
-        Err(Unbuilt::Refused(answer)) => return (answer, None),
+    match rust_headers(headers, path) {
+        Ok((rust, contradicts)) => written(&rust, contradicts, dst),
+        Err(Unbuilt::Refused(answer)) => (answer, Source::Rust),
+        Err(Unbuilt::NoRoom(answer)) => (answer, Source::Model),
         Err(Unbuilt::UnreadPath) => {
             let answer = model::write_headers(headers, path, dst);
-            return (answer, Some(Exception::UnreadStandardPathWritten));
+            (answer, Source::Excepted(Exception::UnreadStandardPathWritten))
         }
-    };
+    }
+}
+
+/// The Rust's headers written to `dst`; a longer one gets 9, as document 01 has it.
+fn written(rust: &ScionHeaders, contradicts: bool, dst: &mut [u8]) -> Expected<Answer> {
     if dst.len() > rust.encoded_length() {
-        return (refusal(9), Some(Exception::LongerEncoderDestination));
+        return (refusal(9), Source::Excepted(Exception::LongerEncoderDestination));
     }
     let mut room = &mut dst[..];
     match rust.encode_to(&mut room) {
-        Ok(()) => (ACCEPTED, contradicts.then_some(Exception::ContradictoryHeaders)),
-        Err(_) => (refusal(9), None),
+        Ok(()) if contradicts => (ACCEPTED, Source::Excepted(Exception::ContradictoryHeaders)),
+        Ok(()) => (ACCEPTED, Source::Rust),
+        Err(_) => (refusal(9), Source::Rust),
+    }
+}
+
+/// Headers made and written: by `ScionHeaders::new` and its encoder where its arguments can be built, else as `write_headers`.
+pub fn write_new_headers(ends: &Ends, made: &Headers, path: &[u8], dst: &mut [u8]) -> Expected<Answer> {
+    match rust_new(ends, made.path_type, path, made.next_header, made.payload_length, made.flow_id) {
+        Some(Ok(rust)) => written(&rust, false, dst),
+        Some(Err(EncodeError::HeaderTooLarge)) => (refusal(12), Source::Rust),
+        Some(Err(EncodeError::PayloadTooLarge)) => (refusal(11), Source::Rust),
+        None => write_headers(made, path, dst),
     }
 }
