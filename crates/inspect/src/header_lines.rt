@@ -29,7 +29,10 @@ pub fn common(header: CommonHeader) {
     text::number_line(b"  traffic class", header.traffic_class as u64);
     text::number_line(b"  flow", header.flow_id as u64);
     text::number_line(b"  next header", header.next_header as u64);
-    text::number_line(b"  factor", header.header_length_factor as u64);
+    text::number_line(
+        b"  header length factor",
+        header.header_length_factor as u64,
+    );
     text::size_line(b"  header length", header.header_length() as u64);
     text::size_line(b"  payload length", header.payload_length as u64);
     path_type(header.path_type);

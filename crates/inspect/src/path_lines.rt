@@ -12,6 +12,9 @@ use path_reverse::copy_to_slice;
 use wire_encoding::read::wide;
 ghost use Prim.Native.Nat.{_+_, _≤_};
 
+// The most moves that a path can take, for one of more than 64 hop fields is refused.
+const MOST_MOVES: usize = 63;
+
 // Calls on a standard path.
 fn standard() -> DataplanePath {
     DataplanePath::new(1)
@@ -136,9 +139,6 @@ fn interfaces(bytes: &[u8], meta_header: PathMetaHeader) {
         i += 1;
     }
 }
-
-// The most moves that a path can take: one to each of its 64 hop fields but the first.
-const MOST_MOVES: usize = 63;
 
 // Where a move led.
 fn moved_to(meta_header: PathMetaHeader) {
