@@ -1,27 +1,19 @@
-// Files that give no packet to look at: what is wrong, on standard error with the file's name and in the place of the packet's answer.
+// Files that give no packet to look at: what is wrong with one stands in a line of its own, and with its name on standard error.
 use crate::text;
-
-// The answer of a packet that there is not.
-fn answer(words: &[u8]) {
-    text::name(b"answer");
-    text::text(b"none: ");
-    text::text(words);
-    text::end();
-}
 
 // A file that holds something else than one packet.
 fn wrong(name: &[u8], words: &[u8]) {
     text::complaint(name, words);
-    answer(words);
+    text::text_line(b"no packet", words);
 }
 
-// A call that failed, just before; standard error gets the system's words.
+// A file on which a call has just failed; standard error gets the system's words.
 pub fn failed(name: &[u8], words: &[u8]) {
     os::fail(name);
-    answer(words);
+    text::text_line(b"no packet", words);
 }
 
-// A read that failed, just before.
+// A file of which a read has just failed.
 fn not_read(name: &[u8]) {
     if os::errno() == libc::EISDIR {
         return failed(name, b"a folder, not a file");
