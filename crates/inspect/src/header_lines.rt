@@ -29,16 +29,19 @@ pub fn common(header: CommonHeader) {
     text::number_line(b"  traffic class", header.traffic_class as u64);
     text::number_line(b"  flow", header.flow_id as u64);
     text::number_line(b"  next header", header.next_header as u64);
-    text::number_line(b"  factor", header.header_length_factor as u64);
-    text::number_line(b"  header length", header.header_length() as u64);
-    text::number_line(b"  payload length", header.payload_length as u64);
+    text::number_line(
+        b"  header length factor",
+        header.header_length_factor as u64,
+    );
+    text::size_line(b"  header length", header.header_length() as u64);
+    text::size_line(b"  payload length", header.payload_length as u64);
     path_type(header.path_type);
     text::number_line(b"  destination kind", header.destination_kind as u64);
     text::number_line(b"  source kind", header.source_kind as u64);
     text::number_line(b"  reserved", header.reserved as u64);
 }
 
-// A network: its number, ISD and AS, in hexadecimal digits.
+// A network: its number, and the ISD and the AS that it is made of.
 fn network(title: &[u8], isd_asn: IsdAsn) {
     text::name(title);
     text::hex_64(isd_asn.to_u64());

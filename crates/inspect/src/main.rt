@@ -1,13 +1,43 @@
-// What a station sees in a packet: every header value, the path and the reply's path, or why the packet is refused. Each argument names a
-// file that holds one packet; without arguments the packet is on standard input. A packet is at most 65,536 bytes here.
+// What a station sees in a packet: every header value, the path, the moves ahead and the reply's path, or why the packet is refused. Each
+// argument names a file that holds one packet; without arguments the packet is on standard input. A packet is at most 65,536 bytes here.
+// Standard error stays empty unless a file can't be looked at; a Rattle program can't set its exit status, which is always 0.
 mod header_lines;
 mod path_lines;
 mod refusal;
 mod text;
+mod unread;
 
 use errors::packet_error::Decoded;
 use libc::STDIN_FILENO;
 use packet::raw::ScionPacketRaw;
+use path::standard::Part;
+
+// The bytes after a packet's payload, and whether they read as a packet.
+fn following(rest: &[u8], at: usize) {
+    let packet = ScionPacketRaw::decode(rest);
+    let answer = packet.answer;
+    text::size_line(b"after the payload", rest.len() as u64);
+    if let Decoded::Accepted = answer {
+        text::name(b"second packet");
+        text::text(b"begins at ");
+        text::number(at as u64);
+        text::end();
+    }
+}
+
+// What follows a payload, if anything.
+fn after(bytes: &[u8], payload: Part) {
+    let start = payload.start;
+    let len = payload.len;
+    if bytes.len() < start {
+        return;
+    }
+    if bytes.len() - start <= len {
+        return;
+    }
+    let at = start + len;
+    following(&bytes[at..], at);
+}
 
 // A packet that was split.
 fn accepted(bytes: &[u8], packet: ScionPacketRaw) {
@@ -30,11 +60,12 @@ fn accepted(bytes: &[u8], packet: ScionPacketRaw) {
     text::text(b"payload\n");
     text::number_line(b"  starts at", payload_part.start as u64);
     text::hex_line(b"  bytes", packet.payload(bytes));
+    after(bytes, payload_part);
 }
 
 // One packet.
 fn inspect(bytes: &[u8]) {
-    text::number_line(b"packet of bytes", bytes.len() as u64);
+    text::size_line(b"packet", bytes.len() as u64);
     let packet = ScionPacketRaw::decode(bytes);
     let answer = packet.answer;
     match answer {
@@ -43,31 +74,43 @@ fn inspect(bytes: &[u8]) {
     }
 }
 
-// The packet that an open file holds.
-fn inspect_open(fd: i32) {
+// The packet that an open file holds. One read more tells a file's end from a read that failed and from a file that is too long.
+fn inspect_open(name: &[u8], fd: i32) {
     let mut buffer = io::large_buffer();
     let length = io::read_full(fd, &mut buffer);
-    inspect(&buffer[..length]);
+    let mut beyond = [0u8; 1];
+    let more = libc::read(fd, &mut beyond);
+    if more == 0 {
+        return inspect(&buffer[..length]);
+    }
+    unread::line(name, length, more);
+}
+
+// The packet in a file.
+fn inspect_file(name: &[u8]) {
+    text::text_line(b"file", name);
+    let fd = os::open_read(name);
+    if fd < 0 {
+        return unread::failed(name, b"can't be opened");
+    }
+    inspect_open(name, fd);
+    libc::close(fd);
 }
 
 // The packet in the file that argument `k` names.
 fn inspect_named(k: usize) {
-    let mut path = io::buffer();
-    let length = os::arg(k, &mut path);
-    text::text_line(b"file", &path[..length]);
-    let fd = os::open_read(&path[..length]);
-    if fd < 0 {
-        os::fail(&path[..length]);
-        return;
+    let mut name = io::buffer();
+    let length = os::arg(k, &mut name);
+    if os::errno() != 0 {
+        return unread::failed(b"argument", b"the name is too long");
     }
-    inspect_open(fd);
-    libc::close(fd);
+    inspect_file(&name[..length]);
 }
 
 fn main() {
     let count = os::arg_count();
     if count < 2 {
-        inspect_open(STDIN_FILENO);
+        inspect_open(b"standard input", STDIN_FILENO);
     }
     let mut k: usize = 1;
     while k < count {

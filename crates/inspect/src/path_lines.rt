@@ -1,6 +1,8 @@
-// The lines of a standard path: segments, hop fields, interfaces in order of travel, and the path of a reply.
+// The lines of a standard path: segments, hop fields, interfaces in order of travel, the moves ahead, and the path of a reply.
+use crate::refusal;
 use crate::text;
 use errors::path_error::Answer;
+use errors::path_error::PathError;
 use path::dataplane::DataplanePath;
 use path_fields::HopField;
 use path_fields::InfoField;
@@ -9,6 +11,9 @@ use path_meta_header::PathMetaHeader;
 use path_reverse::copy_to_slice;
 use wire_encoding::read::wide;
 ghost use Prim.Native.Nat.{_+_, _≤_};
+
+// The most moves that a path can take, for one of more than 64 hop fields is refused.
+const MOST_MOVES: usize = 63;
 
 // Calls on a standard path.
 fn standard() -> DataplanePath {
@@ -23,10 +28,10 @@ fn flag(on: bool, name: &[u8]) {
     }
 }
 
-// The number of an interface; `-` for none.
+// The number of an interface.
 fn interface(interface: Interface) {
     match interface {
-        Interface::None => text::text(b"-"),
+        Interface::None => text::text(b"none"),
         Interface::Id(id) => text::number(id as u64),
     }
 }
@@ -37,7 +42,14 @@ fn code(field: HopField) {
     text::hex(&mac);
 }
 
-// A hop field: entry and exit, expiry, alerts and code; `*` marks the one that the packet stands on.
+// When something expires.
+fn expires(ms: u64) {
+    text::text(b" expires ");
+    text::number(ms);
+    text::text(b" ms");
+}
+
+// A hop field: entry and exit in order of travel, expiry, alerts and code, and whether the packet stands on it.
 fn hop_field(info: InfoField, field: HopField, j: usize, current: usize) {
     text::name(b"    hop field");
     text::number(j as u64);
@@ -47,11 +59,12 @@ fn hop_field(info: InfoField, field: HopField, j: usize, current: usize) {
     interface(field.egress_interface(info));
     text::text(b" expiry byte ");
     text::number(field.exp_time as u64);
+    expires(field.expiry_time(info));
     text::text(b" code ");
     code(field);
-    flag(field.flags / 2 % 2 == 1, b"ingress alert");
-    flag(field.flags % 2 == 1, b"egress alert");
-    flag(j == current, b"*");
+    flag(field.flags / 2 % 2 == 1, b"construction ingress alert");
+    flag(field.flags % 2 == 1, b"construction egress alert");
+    flag(j == current, b"* the packet stands here");
     text::end();
 }
 
@@ -66,13 +79,6 @@ fn hop_fields(bytes: &[u8], info: InfoField, first: usize, count: usize, current
         hop_field(info, field, first + i, current);
         i += 1;
     }
-}
-
-// The expiry of a segment.
-fn segment_expiry(bytes: &[u8], k: usize) {
-    let expiry = path_expiry::segment_expiry_time(standard(), bytes, k);
-    text::text(b" expires ");
-    text::number(expiry.ms);
 }
 
 // A segment: direction, peering, accumulator, time, expiry, and its hop fields.
@@ -91,7 +97,9 @@ fn segment(bytes: &[u8], meta_header: PathMetaHeader, k: usize, current: usize) 
     text::hex_16(info.accumulator);
     text::text(b" time ");
     text::number(info.timestamp as u64);
-    segment_expiry(bytes, k);
+    text::text(b" s");
+    let expiry = path_expiry::segment_expiry_time(standard(), bytes, k);
+    expires(expiry.ms);
     text::end();
     hop_fields(
         bytes,
@@ -132,26 +140,74 @@ fn interfaces(bytes: &[u8], meta_header: PathMetaHeader) {
     }
 }
 
-// Whether the packet can be moved on from where it stands, tried on a copy: 0, or the number of the refusal.
-fn onward(bytes: &[u8], copy: &mut [u8]) {
-    copy_to_slice(standard(), bytes, copy);
-    let moved = path_moves::single_move(standard(), copy);
-    let answer = moved.answer;
+// Where a move led.
+fn moved_to(meta_header: PathMetaHeader) {
     text::name(b"  next move");
-    match answer {
-        Answer::Accepted => text::number(0),
-        Answer::Refused(error) => text::number(error.number() as u64),
-    }
+    text::text(b"to hop field ");
+    text::number(meta_header.current_hop_field as u64);
+    text::text(b", segment ");
+    text::number(meta_header.current_info_field as u64);
     text::end();
 }
 
-// The path of a reply.
-fn reply(bytes: &[u8], turned: &mut [u8]) {
-    path_reverse::reverse_to_slice(standard(), bytes, turned);
-    text::hex_line(b"  reply's path", turned);
+// The next move, made on a copy.
+fn next_move(bytes: &[u8], copy: &mut [u8]) {
+    copy_to_slice(standard(), bytes, copy);
+    let moved = path_moves::single_move(standard(), copy);
+    let answer = moved.answer;
+    let path = moved.path;
+    let meta_header = path.meta_header;
+    match answer {
+        Answer::Accepted => moved_to(meta_header),
+        Answer::Refused(error) => refusal::none(b"  next move", error),
+    }
 }
 
-// The next move, where there is room for a copy.
+// The path of a reply: that of a packet that has arrived, reversed.
+fn reply(bytes: &[u8], reversed: &mut [u8]) {
+    path_reverse::reverse_to_slice(standard(), bytes, reversed);
+    text::hex_line(b"  reply's path", reversed);
+}
+
+// The reply, where there is room for it, as there is for every path in a packet.
+fn reply_in_room(bytes: &[u8]) {
+    let mut room = io::buffer();
+    if room.len() < bytes.len() {
+        return;
+    }
+    reply(bytes, &mut room[..bytes.len()]);
+}
+
+// A path that was walked to its last hop field.
+fn arrived(bytes: &[u8], moves: usize) {
+    text::number_line(b"  moves left", moves as u64);
+    reply_in_room(bytes);
+}
+
+// A path that can't be walked: no packet on it arrives, and none is replied to.
+fn no_arrival(error: PathError) {
+    refusal::none(b"  moves left", error);
+    refusal::none(b"  reply's path", error);
+}
+
+// The walk to the last hop field, made on a copy.
+fn walk(bytes: &[u8], copy: &mut [u8]) {
+    copy_to_slice(standard(), bytes, copy);
+    let walked = path_moves::walk(standard(), copy, MOST_MOVES);
+    let answer = walked.answer;
+    match answer {
+        Answer::Accepted => arrived(copy, walked.moves),
+        Answer::Refused(error) => no_arrival(error),
+    }
+}
+
+// What lies ahead of the packet.
+fn onward(bytes: &[u8], copy: &mut [u8]) {
+    next_move(bytes, copy);
+    walk(bytes, copy);
+}
+
+// The same, where there is room for a copy, as there is for every path in a packet.
 fn onward_in_room(bytes: &[u8]) {
     let mut room = io::buffer();
     if room.len() < bytes.len() {
@@ -160,13 +216,11 @@ fn onward_in_room(bytes: &[u8]) {
     onward(bytes, &mut room[..bytes.len()]);
 }
 
-// The reply, where there is room for it.
-fn reply_in_room(bytes: &[u8]) {
-    let mut room = io::buffer();
-    if room.len() < bytes.len() {
-        return;
-    }
-    reply(bytes, &mut room[..bytes.len()]);
+// The expiry of the path.
+fn path_expiry_line(ms: u64) {
+    text::name(b"  expiry");
+    text::number(ms);
+    text::text(b" ms since 1970\n");
 }
 
 // A standard path, all of `bytes`.
@@ -176,9 +230,8 @@ pub fn path(bytes: &[u8], meta_header: PathMetaHeader) {
     text::number_line(b"  reserved", meta_header.reserved as u64);
     text::number_line(b"  hop fields", meta_header.hop_fields_count() as u64);
     let expiry = path_expiry::expiry_time(standard(), bytes);
-    text::number_line(b"  expiry", expiry.ms);
+    path_expiry_line(expiry.ms);
     segments(bytes, meta_header);
     interfaces(bytes, meta_header);
     onward_in_room(bytes);
-    reply_in_room(bytes);
 }

@@ -1,4 +1,5 @@
-// Text on standard output: a line is a name, padded to a column, and what it says.
+// Text on standard output: a line is a name, padded to a column, and what it says. Numbers are decimal, or hexadecimal after 0x.
+use libc::STDERR_FILENO;
 use libc::STDOUT_FILENO;
 
 // The column at which a line's value starts.
@@ -17,10 +18,10 @@ fn pair(byte: u8) {
     io::print_hex(STDOUT_FILENO, byte as u64, 2);
 }
 
-// The two digits of each byte; `-` where there is none.
+// The two hexadecimal digits of each byte.
 pub fn hex(bytes: &[u8]) {
     if bytes.len() == 0 {
-        text(b"-");
+        text(b"none");
     }
     let mut i: usize = 0;
     while i < bytes.len() {
@@ -31,11 +32,13 @@ pub fn hex(bytes: &[u8]) {
 
 // A 16-bit number as four digits.
 pub fn hex_16(number: u16) {
+    text(b"0x");
     io::print_hex(STDOUT_FILENO, number as u64, 4);
 }
 
 // A 64-bit number as sixteen digits.
 pub fn hex_64(number: u64) {
+    text(b"0x");
     io::print_hex(STDOUT_FILENO, number, 16);
 }
 
@@ -66,6 +69,13 @@ pub fn number_line(title: &[u8], value: u64) {
     end();
 }
 
+// A line with a number of bytes.
+pub fn size_line(title: &[u8], size: u64) {
+    name(title);
+    number(size);
+    text(b" bytes\n");
+}
+
 // A line with words.
 pub fn text_line(title: &[u8], words: &[u8]) {
     name(title);
@@ -78,4 +88,12 @@ pub fn hex_line(title: &[u8], bytes: &[u8]) {
     name(title);
     hex(bytes);
     end();
+}
+
+// A line on standard error: what it is about, and what is wrong with it.
+pub fn complaint(about: &[u8], words: &[u8]) {
+    io::write_all(STDERR_FILENO, about);
+    io::write_all(STDERR_FILENO, b": ");
+    io::write_all(STDERR_FILENO, words);
+    io::write_all(STDERR_FILENO, b"\n");
 }

@@ -13,6 +13,9 @@ abbrev μ-loop : tie.MeasureT-loop
 arg-count-requires : tie.Need-arg-count-requires Inv-loop μ-loop
 arg-count-requires c κs = search needs
 
+slice-aggregate-inspect-open : tie.Need-slice-aggregate-inspect-open Inv-loop μ-loop
+slice-aggregate-inspect-open c = search needs
+
 inspect-open-requires : tie.Need-inspect-open-requires Inv-loop μ-loop
 inspect-open-requires c κs = search needs
 
@@ -41,6 +44,7 @@ main-spec =
     Inv-loop
     μ-loop
     arg-count-requires
+    slice-aggregate-inspect-open
     inspect-open-requires
     loop-holds
     inspect-named-requires
