@@ -15,33 +15,8 @@ use base.Fml.{Lft, Share, ftrue, flft}
 use prog.Wp.{Heap}
 use ghost.Atoms.{Atoms, sem}
 use contract.Monad.{fact}
-use types.Kit.{
-  Item,
-  Given,
-  mean,
-  ‵,
-  raw,
-  some,
-  later,
-  _⊛_,
-  ⋆,
-  _$_,
-  _∵_,
-  !,
-  qed,
-  move,
-  use1,
-  split,
-  join,
-  pick,
-  fjoin,
-  frame,
-  await,
-  updating,
-  now as at-once,
-  show,
-  done,
-}
+use types.Kit.{Item, Given, mean, ‵, raw, some, later, _⊛_, ⋆, _$_, _∵_, !, qed, move, use1, split, join, pick, fjoin, frame, await, updating}
+use types.Kit.{now as at-once, show, done}
 use denote.RattleType.{RattleType}
 use denote.Laws.{Is}
 use denote.Builtin.{u8}

@@ -33,15 +33,7 @@ use Rattle.path.specs.Dataplane.{Extent, headless, readDataplane}
 use Rattle.path.proofs.Reading.{Readable, readable}
 use Rattle.path_reverse.specs.Copy.{into, copy}
 use Rattle.path_reverse.proofs.Copy.{into-exact, into-other}
-use Rattle.path_reverse.specs.Reverse.{
-  reversedRecords,
-  flipped,
-  same,
-  reversedPath,
-  reversedBytes,
-  reverse,
-  Reversible,
-}
+use Rattle.path_reverse.specs.Reverse.{reversedRecords, flipped, same, reversedPath, reversedBytes, reverse, Reversible}
 
 -- THE PARTS OF A FIELD
 

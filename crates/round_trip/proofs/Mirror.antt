@@ -16,23 +16,8 @@ use Rattle.path_meta_header.specs.MetaHeader.{infoFieldsCount, hopFieldsCount, 
 use Rattle.path_meta_header.specs.Reversal.{atStart, reversedMeta}
 use Rattle.path_meta_header.specs.declared.PathMetaHeader.{PathMetaHeader}
 use Rattle.path_meta_header.proofs.MetaHeader.{same-meta, Lengths, lengths-read}
-use Rattle.path_meta_header.proofs.Reversal.{
-  row-is,
-  length-reversedLengths,
-  row-one,
-  row-two,
-  row-three,
-  RowsOf,
-  rows,
-  rows-back,
-  rows-infos,
-  rows-hops,
-  rows-valid,
-  rows-fit,
-  rows-twice,
-  rows-start,
-  rows-segment,
-}
+use Rattle.path_meta_header.proofs.Reversal.{row-is, length-reversedLengths, row-one, row-two, row-three, RowsOf, rows, rows-back, rows-infos}
+use Rattle.path_meta_header.proofs.Reversal.{rows-hops, rows-valid, rows-fit, rows-twice, rows-start, rows-segment}
 use Rattle.path_meta_header.proofs.Encoding.{Fitting}
 use Rattle.path.specs.Standard.{infoAt}
 use Rattle.path_reverse.specs.Reverse.{reversedPath}

@@ -18,15 +18,8 @@ use Rattle.path_meta_header.specs.declared.PathMetaHeader.{PathMetaHeader}
 use Rattle.path_meta_header.proofs.Encoding.{Fitting, word-below, meta-back}
 use Rattle.path.specs.Standard.{infoAt}
 use Rattle.path_reverse.specs.Reverse.{reversedRecords, flipped, same}
-use Rattle.path_reverse.proofs.Reverse.{
-  sized-flipped,
-  sized-same,
-  length-reversedRecords,
-  part-reversedRecords,
-  info-flipped,
-  bytes-flipped,
-  bytes-reversedRecords,
-}
+use Rattle.path_reverse.proofs.Reverse.{sized-flipped, sized-same, length-reversedRecords, part-reversedRecords, info-flipped, bytes-flipped}
+use Rattle.path_reverse.proofs.Reverse.{bytes-reversedRecords}
 use Rattle.round_trip.specs.Mirror.{reversedUnder}
 
 module _ (h m : PathMetaHeader) (x : List ℕ) (whole : pathLength m ≤ length x) where
