@@ -5,7 +5,7 @@ use mathlib.Core.Path.{_≡_, refl, sym, ap, ap₂, _∙_, subst}
 use mathlib.Core.Bool.{Bool, true, false, cond}
 use mathlib.Core.List.{List, [], _∷_, _++_, flatMap, reverse as reversed, reverse-append}
 use Prim.Native.Nat.{ℕ, zero, suc, _+_, _-_, _*_, _≤_, _<_}
-use native.Mathlib.Nat.{suc-mul, zero-mul, add-comm}
+use native.Mathlib.Nat.{suc-mul, zero-mul, add-comm, add-sub-cancel-left}
 use native.Mathlib.Numerals.{sub-one}
 use native.Mathlib.Omega.{arith}
 use lib.Dec.{eqb}
@@ -122,22 +122,34 @@ module _ (f : List ℕ → List ℕ) (sized : Sized f) (k : ℕ) where
       pub in-dst : to + left * k ≤ length dst
       pub len : length dst ≡ length dst₀
 
-    -- the last record goes to the part that was lent for it
-    pub step : (dst now : List ℕ) (to left j m : ℕ) → 0 < left → j ≡ k → m ≡ k → Left dst to left
-        → now ≡ f (part (from + (left - 1) * k) j src) → Left (take to dst ++ (now ++ drop m (drop to dst))) (to + k) (left - 1)
-    step dst now to (suc n) j m h ej em i e =
+    -- the parts that are lent for the last record are of its size
+    pub lent : (dst : List ℕ) (to left : ℕ) → 0 < left → Left dst to left
+        → let at : ℕ = from + (left - 1) * k in (length (part at (at + k - at) src) ≡ k) × (length (part to (to + k - to) dst) ≡ k)
+    lent dst to (suc n) h i =
+        let more : suc n * k ≡ n * k + k = suc-mul n k in
+        let at : ℕ = from + (suc n - 1) * k in
+        let end : at + k ≤ length src = simp sub-one (omega arith) in (
+          ap (λ (size : ℕ). length (part at size src)) (add-sub-cancel-left at k) ∙ length-part at k src end,
+          ap (λ (size : ℕ). length (part to size dst)) (add-sub-cancel-left to k) ∙ length-part to k dst (omega arith),
+        )
+
+    -- and it is written to the second of them
+    pub step : (dst now : List ℕ) (to left : ℕ) → 0 < left → Left dst to left
+        → (let at : ℕ = from + (left - 1) * k in now ≡ f (part at (at + k - at) src))
+        → Left (take to dst ++ (now ++ drop (to + k - to) (drop to dst))) (to + k) (left - 1)
+    step dst now to (suc n) h i e =
         let more : suc n * k ≡ n * k + k = suc-mul n k in
         let last : List ℕ = f (part (n * k) k (drop from src)) in
         let rest : List ℕ = reversedRecords f k n (drop from src) in
         let size : length last ≡ k = length-record n (drop from src) (simp length-drop (omega arith)) in
         let field : now ≡ last =
         simp sub-one at e
-        ∙ ap (λ (size : ℕ). f (part (from + n * k) size src)) ej
+        ∙ ap (λ (size : ℕ). f (part (from + n * k) size src)) (add-sub-cancel-left (from + n * k) k)
         ∙ ap (λ (bytes : List ℕ). f (take k bytes)) (sym (drop-drop (n * k) from src)) in
-        let written : take to dst ++ (now ++ drop m (drop to dst)) ≡ sets dst to last =
-        ap (λ (run : List ℕ). take to dst ++ (run ++ drop m (drop to dst))) field
-        ∙ lent-run last dst to m (size ∙ sym em) (omega arith) in
-        let kept : length (take to dst ++ (now ++ drop m (drop to dst))) ≡ length dst = ap length written ∙ simp length-sets in
+        let written : take to dst ++ (now ++ drop (to + k - to) (drop to dst)) ≡ sets dst to last =
+        ap (λ (run : List ℕ). take to dst ++ (run ++ drop (to + k - to) (drop to dst))) field
+        ∙ lent-run last dst to (to + k - to) (size ∙ sym (add-sub-cancel-left to k)) (omega arith) in
+        let kept : length (take to dst ++ (now ++ drop (to + k - to) (drop to dst))) ≡ length dst = ap length written ∙ simp length-sets in
         simp sub-one (record {
           writes = ap (λ (d : List ℕ). sets d (to + k) rest) written ∙ written-after last rest dst to k size
               ∙ ap (sets dst to) (sym (last-first f k n (drop from src))) ∙ i .writes;
