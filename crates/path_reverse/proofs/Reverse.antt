@@ -1,7 +1,7 @@
 -- Laws of a reversed path: the parts of a field, the loop that writes records last one first, the size and the header of
 -- what is written.
 -- Assumes nothing.
-use mathlib.Core.Path.{_≡_, refl, sym, ap, ap₂, _∙_, subst}
+use mathlib.Core.Path.{_≡_, refl, sym, ap, ap₂, _∙_}
 use mathlib.Core.Bool.{Bool, true, false, cond}
 use mathlib.Core.List.{List, [], _∷_, _++_, flatMap, reverse as reversed, reverse-append}
 use Prim.Native.Nat.{ℕ, zero, suc, _+_, _-_, _*_, _≤_, _<_}
@@ -11,15 +11,13 @@ use native.Mathlib.Omega.{arith}
 use lib.Dec.{eqb}
 use lib.Bits.{bitXor}
 use lib.ListN.{length, take, drop, getD, set, length-append, length-drop}
-use lib.Seq.{sets, take-all, take-at, drop-drop, length-sets}
+use lib.Seq.{sets, take-all, drop-drop, length-sets}
 use borrow.Author.Tests.{lt-ltb, ne-eqb}
 use Rattle.wire_encoding.specs.BigEndian.{bigEndian, bytesOf, part, placed, records}
-use Rattle.wire_encoding.proofs.Bits.{flip-bit, flip-above}
-use Rattle.wire_encoding.proofs.Lists.{Bytes, length-part, part-join, part-right, written-after, sets-whole, bytes-append, bytes-part}
+use Rattle.wire_encoding.proofs.Bits.{flip-bit}
+use Rattle.wire_encoding.proofs.Lists.{length-part, part-join, written-after, sets-whole}
 use Rattle.wire_encoding.proofs.BigEndian.{length-bytesOf}
 use Rattle.wire_encoding.proofs.Writes.{lent-run, placed-is}
-use Rattle.path_fields.specs.Fields.{infoFieldAt, withConstructedDir}
-use Rattle.path_fields.proofs.Fields.{directionFlipped}
 use Rattle.path_meta_header.specs.MetaHeader.{nthField, metaOf, infoFieldsCount, hopFieldsCount, pathLength}
 use Rattle.path_meta_header.specs.Reversal.{atStart, reversedLengths, reversedMeta}
 use Rattle.path_meta_header.proofs.Reversal.{rowOf, row-is}
@@ -33,7 +31,7 @@ use Rattle.path.specs.Dataplane.{Extent, headless, readDataplane}
 use Rattle.path.proofs.Reading.{Readable, readable}
 use Rattle.path_reverse.specs.Copy.{into, copy}
 use Rattle.path_reverse.proofs.Copy.{into-exact, into-other}
-use Rattle.path_reverse.specs.Reverse.{reversedRecords, flipped, same, reversedPath, reversedBytes, reverse, Reversible}
+use Rattle.path_reverse.specs.Reverse.{reversedRecords, flipped, same, reversedUnder, reversedPath, reversedBytes, reverse, Reversible}
 
 -- THE PARTS OF A FIELD
 
@@ -165,36 +163,43 @@ module _ (f : List ℕ → List ℕ) (sized : Sized f) (k : ℕ) where
 -- THE WHOLE PATH
 
 module _ (m : PathMetaHeader) (bytes : List ℕ) where
-  abbrev header : List ℕ
-  header = bytesOf 4 (wordOf (reversedMeta m))
-
-  abbrev infos : List ℕ
+  -- what is written of the info fields, and of the hop fields
+  abbrev pub infos : List ℕ
   infos = reversedRecords flipped 8 (infoFieldsCount m) (drop 4 bytes)
 
-  abbrev hops : List ℕ
+  abbrev pub hops : List ℕ
   hops = reversedRecords same 12 (hopFieldsCount m) (drop (4 + infoFieldsCount m * 8) bytes)
 
   module _ (whole : pathLength m ≤ length bytes) where
-    length-infos : length infos ≡ infoFieldsCount m * 8
+    -- the source holds them
+    pub infos-room : infoFieldsCount m * 8 ≤ length (drop 4 bytes)
     unfolding pathLength
-    length-infos =
-        length-reversedRecords flipped sized-flipped 8 (infoFieldsCount m) (drop 4 bytes) (simp length-drop (omega arith))
+    infos-room = simp length-drop (omega arith)
+
+    pub hops-room : hopFieldsCount m * 12 ≤ length (drop (4 + infoFieldsCount m * 8) bytes)
+    unfolding pathLength
+    hops-room = simp length-drop (omega arith)
+
+    pub length-infos : length infos ≡ infoFieldsCount m * 8
+    length-infos = length-reversedRecords flipped sized-flipped 8 (infoFieldsCount m) (drop 4 bytes) infos-room
 
     length-hops : length hops ≡ hopFieldsCount m * 12
-    unfolding pathLength
-    length-hops =
-        length-reversedRecords same sized-same 12 (hopFieldsCount m) (drop (4 + infoFieldsCount m * 8) bytes)
-        (simp length-drop (omega arith))
+    length-hops = length-reversedRecords same sized-same 12 (hopFieldsCount m) (drop (4 + infoFieldsCount m * 8) bytes) hops-room
+
+    pub length-reversed : (h : PathMetaHeader) → length (reversedUnder h m bytes) ≡ pathLength m
+    unfolding reversedUnder pathLength
+    length-reversed h = simp (length-append, length-bytesOf, length-infos, length-hops) (omega arith)
 
     pub length-reversedPath : length (reversedPath m bytes) ≡ pathLength m
-    unfolding reversedPath pathLength
-    length-reversedPath = simp (length-append, length-bytesOf, length-infos, length-hops) (omega arith)
+    unfolding reversedPath
+    length-reversedPath = length-reversed (reversedMeta m)
 
   -- the three writes, one after another, are the path reversed
-  pub all-written : (dst : List ℕ) {d₁ d₂ d₃ : List ℕ} → Reversible m (length bytes) (length dst) → d₁ ≡ placed dst 0 header
+  pub all-written : (dst : List ℕ) {d₁ d₂ d₃ : List ℕ} → Reversible m (length bytes) (length dst) → d₁ ≡ placed dst 0 (bytesOf 4 (wordOf (reversedMeta m)))
       → d₂ ≡ sets d₁ 4 infos → d₃ ≡ sets d₂ (4 + infoFieldsCount m * 8) hops → d₃ ≡ reversedPath m bytes
-  unfolding reversedPath pathLength
+  unfolding reversedPath reversedUnder pathLength
   all-written dst r e₁ e₂ e₃ =
+      let header : List ℕ = bytesOf 4 (wordOf (reversedMeta m)) in
       let size : length header ≡ 4 = length-bytesOf 4 (wordOf (reversedMeta m)) in
       let first = e₁ ∙ placed-is dst 0 header 4 size (omega arith) in
       e₃
@@ -240,54 +245,6 @@ reversible {bytes} r e = record {
   whole = r .whole;
   exact = e;
 }
-
--- WHAT A REVERSED PATH HOLDS
-
--- record j of records written last one first
-pub part-reversedRecords : (f : List ℕ → List ℕ) → Sized f → (s n j : ℕ) (bytes : List ℕ) → j < n → n * s ≤ length bytes
-    → part (j * s) s (reversedRecords f s n bytes) ≡ f (part ((n - 1 - j) * s) s bytes)
-part-reversedRecords f sized s zero j bytes l h = absurd (omega arith)
-part-reversedRecords f sized s (suc n) zero bytes l h =
-    let more : suc n * s ≡ n * s + s = suc-mul n s in
-    let none : zero * s ≡ 0 = zero-mul s in
-    let last : List ℕ = f (part (n * s) s bytes) in
-    let at : n ≡ suc n - 1 - 0 = omega arith in
-    ap (part (zero * s) s) (last-first f s n bytes)
-    ∙ ap (λ (p : ℕ). part p s (last ++ reversedRecords f s n bytes)) none
-    ∙ take-at last (reversedRecords f s n bytes) s (sized (part (n * s) s bytes) ∙ length-part (n * s) s bytes (omega arith))
-    ∙ ap (λ (i : ℕ). f (part (i * s) s bytes)) at
-part-reversedRecords f sized s (suc n) (suc j) bytes l h =
-    let more : suc n * s ≡ n * s + s = suc-mul n s in
-    let next : suc j * s ≡ s + j * s = suc-mul j s ∙ add-comm (j * s) s in
-    let last : List ℕ = f (part (n * s) s bytes) in
-    let at : n - 1 - j ≡ suc n - 1 - suc j = omega arith in
-    ap (part (suc j * s) s) (last-first f s n bytes)
-    ∙ ap (λ (p : ℕ). part p s (last ++ reversedRecords f s n bytes)) next
-    ∙ part-right s (j * s) s last (reversedRecords f s n bytes) (sized (part (n * s) s bytes) ∙ length-part (n * s) s bytes (omega arith))
-    ∙ part-reversedRecords f sized s n j bytes (omega arith) (omega arith)
-    ∙ ap (λ (i : ℕ). f (part (i * s) s bytes)) at
-
--- an info field by its eight bytes
-pub info-flipped : (l : List ℕ) → length l ≡ 8 → infoFieldAt (flipped l) 0 ≡ directionFlipped (infoFieldAt l 0)
-unfolding flipped infoFieldAt bigEndian directionFlipped withConstructedDir
-info-flipped [] h = absurd (omega arith)
-info-flipped (flags ∷ rest) h = refl
-
--- bytes stay bytes
-pub bytes-flipped : (l : List ℕ) → Bytes l → Bytes (flipped l)
-unfolding flipped
-bytes-flipped [] h k = h k
-bytes-flipped (v ∷ l) h zero = omega (arith, h zero, flip-above v)
-bytes-flipped (v ∷ l) h (suc k) = h (suc k)
-
-pub bytes-reversedRecords : (f : List ℕ → List ℕ) → ((l : List ℕ) → Bytes l → Bytes (f l)) → (s n : ℕ) (l : List ℕ) → Bytes l
-    → Bytes (reversedRecords f s n l)
-unfolding reversedRecords records flatMap
-bytes-reversedRecords f kept s zero l h = λ k. omega arith
-bytes-reversedRecords f kept s (suc n) l h =
-    subst (λ (x : List ℕ). Bytes x) (sym (last-first f s n l))
-    (bytes-append (f (part (n * s) s l)) (reversedRecords f s n l) (kept (part (n * s) s l) (bytes-part (n * s) s l h))
-    (bytes-reversedRecords f kept s n l h))
 
 -- THE CALL
 

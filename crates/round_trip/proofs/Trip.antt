@@ -1,4 +1,4 @@
--- The trip happens: sent, walked to the last hop field and reversedInto, out and back, each call is accepted, so both ends hold what they
+-- The trip happens: sent, walked to the last hop field and reversed, out and back, each call is accepted, so both ends hold what they
 -- should and each packet was taken with count N − 1.
 -- Assumes nothing.
 use Prim.Native.Nat.{ℕ, _+_, _-_, _<_}
