@@ -12,25 +12,13 @@ use lib.ListN.{length, getD}
 use borrow.Author.Tests.{eq-eqb}
 use Rattle.wire_encoding.specs.Result.{ok}
 use Rattle.wire_encoding.specs.BigEndian.{part}
-use Rattle.wire_encoding.proofs.Bits.{flip-made, flip-above, flip-twice}
+use Rattle.wire_encoding.proofs.Bits.{flip-made, flip-above}
 use Rattle.wire_encoding.proofs.Lists.{Bytes, by-lt, length-part, getD-part, part-part, getD-by-part}
 use Rattle.wire_encoding.proofs.BigEndian.{read-part, part-by-number}
 use Rattle.path_fields.specs.declared.InfoField.{InfoField}
 use Rattle.path_fields.specs.declared.HopField.{HopField}
-use Rattle.path_fields.specs.Fields.{
-  infoFieldAt,
-  newInfoField,
-  infoFieldIn,
-  constructedDir,
-  peering,
-  withConstructedDir,
-  hopFieldAt,
-  newHopField,
-  hopFieldIn,
-  interfaceOf,
-  ingressInterface,
-  egressInterface,
-}
+use Rattle.path_fields.specs.Fields.{infoFieldAt, newInfoField, infoFieldIn, constructedDir, peering, withConstructedDir, hopFieldAt}
+use Rattle.path_fields.specs.Fields.{newHopField, hopFieldIn, interfaceOf, ingressInterface, egressInterface}
 
 first-byte : (at n : ℕ) (bytes : List ℕ) → 1 ≤ n → getD (part at n bytes) 0 0 ≡ getD bytes at 0
 first-byte at n bytes h = getD-part at n bytes 0 (omega arith) ∙ ap (λ (i : ℕ). getD bytes i 0) (add-zero at)
@@ -108,17 +96,6 @@ direction-flipped info = flip-made 0 (info .flags)
 pub peering-flipped : (info : InfoField) → peering (directionFlipped info) ≡ peering info
 unfolding directionFlipped withConstructedDir
 peering-flipped info = ap (λ (n : ℕ). eqb (n % 2) 1) (flip-above (info .flags))
-
--- and flipped again it is the field
-pub direction-twice : (info : InfoField) → directionFlipped (directionFlipped info) ≡ info
-unfolding directionFlipped withConstructedDir
-direction-twice info =
-    λ i. record {
-      flags = flip-twice 0 (info .flags) i;
-      reserved = info .reserved;
-      accumulator = info .accumulator;
-      timestamp = info .timestamp;
-    }
 
 exchanged : (t : Bool) (a b : ℕ) → cond (not t) a b ≡ cond t b a
 exchanged true a b = refl

@@ -2,17 +2,14 @@
 -- field returns to its place, a flag flipped twice is as it was, and so are the lengths put in opposite order twice.
 -- Assumes nothing.
 use mathlib.Core.Path.{_≡_, refl, sym, ap, ap₂, _∙_, subst}
-use mathlib.Core.Bool.{Bool, true, false, not}
 use mathlib.Core.List.{List, [], _∷_, _++_, append-assoc, append-nil, flatMap}
-use Prim.Native.Nat.{ℕ, zero, suc, _+_, _-_, _*_, _/_, _%_, _^_, _≤_}
+use Prim.Native.Nat.{ℕ, zero, suc, _+_, _-_, _*_, _≤_}
 use native.Mathlib.Nat.{suc-mul, zero-mul, add-comm}
 use native.Mathlib.Omega.{arith}
 use lib.ListN.{length, take, drop}
 use lib.Seq.{drop-drop, drop-append-add, drop-at, take-at, take-add}
-use borrow.Author.Tests.{eqb-true}
-use Rattle.wire_encoding.specs.Bits.{bitOf, withBit}
 use Rattle.wire_encoding.specs.BigEndian.{bigEndian, bytesOf, part, records}
-use Rattle.wire_encoding.proofs.Bits.{bit-kept}
+use Rattle.wire_encoding.proofs.Bits.{flip-twice}
 use Rattle.wire_encoding.proofs.Lists.{length-part, part-join}
 use Rattle.wire_encoding.proofs.BigEndian.{length-bytesOf}
 use Rattle.path_meta_header.specs.MetaHeader.{infoFieldsCount, hopFieldsCount, pathLength}
@@ -66,23 +63,10 @@ module _ (f : List ℕ → List ℕ) (k : ℕ) where
       ∙ sym (take-add (n * k) k bytes)
       ∙ ap (λ (p : ℕ). take p bytes) (sym more)
 
--- a flag flipped twice is as it was
-flag-twice : (n : ℕ) → withBit 0 (not (bitOf 0 (withBit 0 (not (bitOf 0 n)) n))) (withBit 0 (not (bitOf 0 n)) n) ≡ n
-unfolding withBit
-flag-twice n = go (bitOf 0 n) refl
-  where
-    go : (v : Bool) → bitOf 0 n ≡ v → withBit 0 (not (bitOf 0 (withBit 0 (not (bitOf 0 n)) n))) (withBit 0 (not (bitOf 0 n)) n) ≡ n
-    go true e =
-        let cleared : bitOf 0 (n - 1) ≡ false = rw e at (bit-kept 0 n false .made) in
-        rw (e, e, cleared, cleared) (omega (arith, eqb-true (n / 2 ^ 0 % 2) 1 e))
-    go false e =
-        let set : bitOf 0 (n + 1) ≡ true = rw e at (bit-kept 0 n true .made) in
-        rw (e, e, set, set) (omega arith)
-
 undone-flipped : Undone flipped
 unfolding flipped
 undone-flipped [] = refl
-undone-flipped (flags ∷ rest) = ap (λ (n : ℕ). n ∷ rest) (flag-twice flags)
+undone-flipped (flags ∷ rest) = ap (λ (n : ℕ). n ∷ rest) (flip-twice 0 flags)
 
 undone-same : Undone same
 unfolding same

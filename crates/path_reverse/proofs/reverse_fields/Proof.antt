@@ -7,36 +7,18 @@ use borrow.Author.Needs.{needs}
 use Rattle.path_reverse.proofs.reverse_fields.Statement.{statement}
 use Rattle.path_reverse.proofs.reverse_fields.Tie as tie
 
-info-fields-count-requires : tie.Need-info-fields-count-requires
-info-fields-count-requires c κs = search needs
-
-hop-fields-count-requires : tie.Need-hop-fields-count-requires
-hop-fields-count-requires c κs = search needs
-
-to-reversed-requires : tie.Need-to-reversed-requires
-to-reversed-requires c κs = search needs
-
 word-of-requires : tie.Need-word-of-requires
 word-of-requires c κs =
     let reversed = c .before in
     ap metaFits (reversed .to-reversed .ensures) ∙ reversed .before .before .before .before .before .pre .fits
 
-put-u32-requires : tie.Need-put-u32-requires
-put-u32-requires c κs = search needs
-
 reverse-info-fields-requires : tie.Need-reverse-info-fields-requires
 unfolding pathLength
 reverse-info-fields-requires c κs = search needs
 
-hop-fields-start-requires : tie.Need-hop-fields-start-requires
-hop-fields-start-requires c κs = search needs
-
 reverse-hop-fields-requires : tie.Need-reverse-hop-fields-requires
 unfolding pathLength
 reverse-hop-fields-requires c κs = search needs
-
-same-length : tie.Need-same-length
-same-length c = search needs
 
 returns : tie.Need-returns
 returns c =
@@ -57,13 +39,13 @@ pub reverse-fields-spec : {M : Type 1} → statement M
 reverse-fields-spec =
     tie.close
     (tie.spec
-    info-fields-count-requires
-    hop-fields-count-requires
-    to-reversed-requires
+    (λ c κs. search needs)
+    (λ c κs. search needs)
+    (λ c κs. search needs)
     word-of-requires
-    put-u32-requires
+    (λ c κs. search needs)
     reverse-info-fields-requires
-    hop-fields-start-requires
+    (λ c κs. search needs)
     reverse-hop-fields-requires
-    same-length
+    (λ c. search needs)
     returns)

@@ -8,36 +8,6 @@ use Rattle.path_fields.specs.Fields.{newHopField, hopFieldAt, zeroHopFie
 use Rattle.path_fields.proofs.HopField.new.Statement.{statement}
 use Rattle.path_fields.proofs.HopField.new.Tie as tie
 
-shared-slice-read-t6 : tie.Need-shared-slice-read-t6
-shared-slice-read-t6 c = search needs
-
-shared-slice-read-t8 : tie.Need-shared-slice-read-t8
-shared-slice-read-t8 c = search needs
-
-shared-slice-read-t10 : tie.Need-shared-slice-read-t10
-shared-slice-read-t10 c = search needs
-
-shared-slice-read-t12 : tie.Need-shared-slice-read-t12
-shared-slice-read-t12 c = search needs
-
-shared-slice-read-t14 : tie.Need-shared-slice-read-t14
-shared-slice-read-t14 c = search needs
-
-shared-slice-read-t16 : tie.Need-shared-slice-read-t16
-shared-slice-read-t16 c = search needs
-
-shared-slice-read-t6-2 : tie.Need-shared-slice-read-t6-2
-shared-slice-read-t6-2 c = search needs
-
-shared-slice-read-t16-2 : tie.Need-shared-slice-read-t16-2
-shared-slice-read-t16-2 c = search needs
-
-u16-or-zero-requires : tie.Need-u16-or-zero-requires
-u16-or-zero-requires c κs = search needs
-
-u16-or-zero-requires-2 : tie.Need-u16-or-zero-requires-2
-u16-or-zero-requires-2 c κs = search needs
-
 returns : tie.Need-returns
 unfolding newHopField hopFieldAt
 returns c =
@@ -61,15 +31,15 @@ pub new-spec : {M : Type 1} → statement M
 new-spec =
     tie.close
     (tie.spec
-    shared-slice-read-t6
-    shared-slice-read-t8
-    shared-slice-read-t10
-    shared-slice-read-t12
-    shared-slice-read-t14
-    shared-slice-read-t16
-    shared-slice-read-t6-2
-    shared-slice-read-t16-2
-    u16-or-zero-requires
-    u16-or-zero-requires-2
+    (λ c. search needs)
+    (λ c. search needs)
+    (λ c. search needs)
+    (λ c. search needs)
+    (λ c. search needs)
+    (λ c. search needs)
+    (λ c. search needs)
+    (λ c. search needs)
+    (λ c κs. search needs)
+    (λ c κs. search needs)
     returns
     returns-2)

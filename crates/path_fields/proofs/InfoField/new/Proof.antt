@@ -7,18 +7,6 @@ use Rattle.path_fields.specs.Fields.{newInfoField, infoFieldAt, zeroInfo
 use Rattle.path_fields.proofs.InfoField.new.Statement.{statement}
 use Rattle.path_fields.proofs.InfoField.new.Tie as tie
 
-shared-slice-read-t6 : tie.Need-shared-slice-read-t6
-shared-slice-read-t6 c = search needs
-
-shared-slice-read-t8 : tie.Need-shared-slice-read-t8
-shared-slice-read-t8 c = search needs
-
-u16-or-zero-requires : tie.Need-u16-or-zero-requires
-u16-or-zero-requires c κs = search needs
-
-u32-or-zero-requires : tie.Need-u32-or-zero-requires
-u32-or-zero-requires c κs = search needs
-
 returns : tie.Need-returns
 unfolding newInfoField infoFieldAt
 returns c =
@@ -37,12 +25,4 @@ unfolding newInfoField zeroInfoField
 returns-2 c = rw (ne-eqb _ _ (c .if1 .left))
 
 pub new-spec : {M : Type 1} → statement M
-new-spec =
-    tie.close
-    (tie.spec
-    shared-slice-read-t6
-    shared-slice-read-t8
-    u16-or-zero-requires
-    u32-or-zero-requires
-    returns
-    returns-2)
+new-spec = tie.close (tie.spec (λ c. search needs) (λ c. search needs) (λ c κs. search needs) (λ c κs. search needs) returns returns-2)

@@ -4,17 +4,11 @@ use borrow.Author.Needs.{needs}
 use Rattle.address.proofs.ia.IsdAsn.is_wildcard.Statement.{statement}
 use Rattle.address.proofs.ia.IsdAsn.is_wildcard.Tie as tie
 
-isd-requires : tie.Need-isd-requires
-isd-requires c κs = search needs
-
 returns : tie.Need-returns
 returns c = rw (← c .before .isd .ensures, eq-eqb _ _ (c .if1 .taken))
-
-asn-requires : tie.Need-asn-requires
-asn-requires c κs = search needs
 
 returns-2 : tie.Need-returns-2
 returns-2 c = rw (← c .before .before .isd .ensures, ne-eqb _ _ (c .before .if1 .left), ← c .asn .ensures)
 
 pub is-wildcard-spec : {M : Type 1} → statement M
-is-wildcard-spec = tie.close (tie.spec isd-requires returns asn-requires returns-2)
+is-wildcard-spec = tie.close (tie.spec (λ c κs. search needs) returns (λ c κs. search needs) returns-2)
