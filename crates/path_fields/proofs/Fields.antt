@@ -10,15 +10,20 @@ use native.Mathlib.Omega.{arith}
 use lib.Dec.{eqb}
 use lib.ListN.{length, getD}
 use borrow.Author.Tests.{eq-eqb}
-use Rattle.wire_encoding.specs.Result.{ok}
-use Rattle.wire_encoding.specs.BigEndian.{part}
+use Rattle.wire_encoding.specs.Result.{ok, orElse}
+use Rattle.wire_encoding.specs.BigEndian.{bigEndian, numberAt, part}
 use Rattle.wire_encoding.proofs.Bits.{flip-made, flip-above}
 use Rattle.wire_encoding.proofs.Lists.{Bytes, by-lt, length-part, getD-part, part-part, getD-by-part}
-use Rattle.wire_encoding.proofs.BigEndian.{read-part, part-by-number}
+use Rattle.wire_encoding.proofs.BigEndian.{or-zero-is, read-part, part-by-number}
 use Rattle.path_fields.specs.declared.InfoField.{InfoField}
 use Rattle.path_fields.specs.declared.HopField.{HopField}
 use Rattle.path_fields.specs.Fields.{infoFieldAt, newInfoField, infoFieldIn, constructedDir, peering, withConstructedDir, hopFieldAt}
 use Rattle.path_fields.specs.Fields.{newHopField, hopFieldIn, interfaceOf, ingressInterface, egressInterface}
+
+-- a number of a field that a total read gave, of a part that holds it
+pub read-there : (width : ℕ) (bytes : List ℕ) (at : ℕ) {n : ℕ} → n ≡ orElse (numberAt width bytes at) 0 → at + width ≤ length bytes
+    → n ≡ bigEndian width bytes at
+read-there width bytes at e h = e ∙ or-zero-is width bytes at h
 
 first-byte : (at n : ℕ) (bytes : List ℕ) → 1 ≤ n → getD (part at n bytes) 0 0 ≡ getD bytes at 0
 first-byte at n bytes h = getD-part at n bytes 0 (omega arith) ∙ ap (λ (i : ℕ). getD bytes i 0) (add-zero at)

@@ -195,8 +195,8 @@ module _ (m : PathMetaHeader) (bytes : List ℕ) where
     length-reversedPath = length-reversed (reversedMeta m)
 
   -- the three writes, one after another, are the path reversed
-  pub all-written : (dst : List ℕ) {d₁ d₂ d₃ : List ℕ} → Reversible m (length bytes) (length dst) → d₁ ≡ placed dst 0 (bytesOf 4 (wordOf (reversedMeta m)))
-      → d₂ ≡ sets d₁ 4 infos → d₃ ≡ sets d₂ (4 + infoFieldsCount m * 8) hops → d₃ ≡ reversedPath m bytes
+  pub all-written : (dst : List ℕ) {d₁ d₂ d₃ : List ℕ} → Reversible m (length bytes) (length dst)
+      → d₁ ≡ placed dst 0 (bytesOf 4 (wordOf (reversedMeta m))) → d₂ ≡ sets d₁ 4 infos → d₃ ≡ sets d₂ (4 + infoFieldsCount m * 8) hops → d₃ ≡ reversedPath m bytes
   unfolding reversedPath reversedUnder pathLength
   all-written dst r e₁ e₂ e₃ =
       let header : List ℕ = bytesOf 4 (wordOf (reversedMeta m)) in

@@ -1,10 +1,12 @@
 -- `HopField::new` meets its contract: each field is read at its offset of the part.
+use mathlib.Core.Path.{refl}
 use native.Mathlib.Omega.{arith}
+use lib.ListN.{length}
 use borrow.Author.Needs.{needs}
 use borrow.Author.Tests.{eq-eqb, ne-eqb}
 use Rattle.wire_encoding.proofs.Lists.{part-bytes}
-use Rattle.wire_encoding.proofs.BigEndian.{or-zero-is}
 use Rattle.path_fields.specs.Fields.{newHopField, hopFieldAt, zeroHopField}
+use Rattle.path_fields.proofs.Fields.{read-there}
 use Rattle.path_fields.proofs.HopField.new.Statement.{statement}
 use Rattle.path_fields.proofs.HopField.new.Tie as tie
 
@@ -15,13 +17,11 @@ returns c =
     let s = code .before .before .before .before .before in
     let part = s .before .before .args .part .now in
     rw (
-      eq-eqb _ _ (s .if1 .taken),
+      eq-eqb (length part) 12 (s .if1 .taken),
       part-bytes 6 6 part (omega arith),
-      c .before .u16-or-zero .ensures,
-      or-zero-is 2 part 2 (omega arith),
-      c .u16-or-zero2 .ensures,
-      or-zero-is 2 part 4 (omega arith),
-    )
+      read-there 2 part 2 (c .before .u16-or-zero .ensures) (omega arith),
+      read-there 2 part 4 (c .u16-or-zero2 .ensures) (omega arith),
+    ) refl
 
 returns-2 : tie.Need-returns-2
 unfolding newHopField zeroHopField
