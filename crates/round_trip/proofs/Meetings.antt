@@ -11,8 +11,7 @@ use Rattle.wire_encoding.specs.Bits.{bitOf}
 use Rattle.wire_encoding.specs.BigEndian.{part}
 use Rattle.path_fields.specs.Fields.{constructedDir, withConstructedDir, ingressInterface, egressInterface}
 use Rattle.path_fields.specs.declared.InfoField.{InfoField}
-use Rattle.path_fields.proofs.Fields.{directionFlipped, direction-flipped, same-hop, ingress-same, egress-same, ingress-exchanged}
-use Rattle.path_fields.proofs.Fields.{egress-exchanged}
+use Rattle.path_fields.proofs.Fields.{directionFlipped, direction-flipped, same-hop, ingress-same, egress-same, ingress-exchanged, egress-exchanged}
 use Rattle.path_meta_header.specs.MetaHeader.{infoFieldsCount, hopFieldsCount, segmentOf, hopStart}
 use Rattle.path_meta_header.specs.declared.PathMetaHeader.{PathMetaHeader}
 use Rattle.path_meta_header.proofs.MetaHeader.{segment-below}

@@ -13,9 +13,8 @@ use Rattle.path_meta_header.specs.MetaHeader.{hopFieldsCount}
 use Rattle.path_meta_header.specs.declared.PathMetaHeader.{PathMetaHeader}
 use Rattle.path_moves.specs.Moves as moves
 use Rattle.path.specs.Dataplane.{metaHeaderOf}
-use Rattle.round_trip.specs.RoundTrip.{reversedInto, End, first, other, Packet, State, begin, byEnd, sending, walk, arrival, onTheWay}
-use Rattle.round_trip.specs.RoundTrip.{onPacket, sent, packetWalked, without, hopCount, pointer, atLast, holding, arrived, step, after}
-use Rattle.round_trip.specs.RoundTrip.{Begun, reply}
+use Rattle.round_trip.specs.RoundTrip.{reversedInto, End, first, other, Packet, State, begin, byEnd, sending, walk, arrival, onTheWay, onPacket}
+use Rattle.round_trip.specs.RoundTrip.{sent, packetWalked, without, hopCount, pointer, atLast, holding, arrived, step, after, Begun, reply}
 use Rattle.round_trip.specs.Reply.{atEnd, TripHappens, TripCounts}
 use Rattle.round_trip.proofs.Mirror.{Path}
 use Rattle.round_trip.proofs.Meetings.{path-header}
