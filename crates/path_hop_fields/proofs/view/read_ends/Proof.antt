@@ -136,7 +136,7 @@ module _ {M : Type 1} (𝓤 : URA M) (H : Heap 𝓤) (A : Atoms 𝓤) (W : Given
       × (now (h₂ .run) ≡ spec.beforeLast (now (h₁ .run)))
       → n ≡ spec.count (now (h₂ .run)) → r ≡ spec.endsOf (now f) (now t) n → r ≡ spec.ends (spec.whole (now s))
   unfolding spec.ends
-  all-told r h₀ h₁ h₂ f t n e₀ e₁ e₂ e₃ e₄ = rw (e₄, e₃, e₂ .1, e₂ .0, e₁ .1, e₁ .0, e₀)
+  all-told r h₀ h₁ h₂ f t n e₀ e₁ e₂ e₃ e₄ = rw (e₄, e₃, e₂ .1, e₂ .0, e₁ .1, e₁ .0, e₀) refl
 
   module _ (C : Calls 𝓤 H) (Λ : Loops 𝓤 H) (fm : FmC 𝓤 H (W .laws) C) (known : Known 𝓤 H A mem run C) where
     walk : Is (Slice κ) s (machine s ∷ [])
