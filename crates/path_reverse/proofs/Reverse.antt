@@ -194,16 +194,20 @@ module _ (m : PathMetaHeader) (bytes : List ℕ) where
     unfolding reversedPath
     length-reversedPath = length-reversed (reversedMeta m)
 
-  -- the three writes, one after another, are the path reversed
-  pub all-written : (dst : List ℕ) {d₁ d₂ d₃ : List ℕ} → Reversible m (length bytes) (length dst)
-      → d₁ ≡ placed dst 0 (bytesOf 4 (wordOf (reversedMeta m))) → d₂ ≡ sets d₁ 4 infos → d₃ ≡ sets d₂ (4 + infoFieldsCount m * 8) hops → d₃ ≡ reversedPath m bytes
+  -- the three writes, one after another, of the reversed word and of as many fields as there are, are the path reversed
+  pub all-written : (dst : List ℕ) {word i n at : ℕ} {d₁ d₂ d₃ : List ℕ} → Reversible m (length bytes) (length dst)
+      → word ≡ wordOf (reversedMeta m) → i ≡ infoFieldsCount m → n ≡ hopFieldsCount m → at ≡ 4 + infoFieldsCount m * 8
+      → d₁ ≡ placed dst 0 (bytesOf 4 word) → d₂ ≡ sets d₁ 4 (reversedRecords flipped 8 i (drop 4 bytes))
+      → d₃ ≡ sets d₂ at (reversedRecords same 12 n (drop at bytes)) → d₃ ≡ reversedPath m bytes
   unfolding reversedPath reversedUnder pathLength
-  all-written dst r e₁ e₂ e₃ =
+  all-written dst {d₁ = d₁} {d₂ = d₂} r spelt is many starts e₁ e₂ e₃ =
       let header : List ℕ = bytesOf 4 (wordOf (reversedMeta m)) in
       let size : length header ≡ 4 = length-bytesOf 4 (wordOf (reversedMeta m)) in
-      let first = e₁ ∙ placed-is dst 0 header 4 size (omega arith) in
+      let first = e₁ ∙ ap (λ (w : ℕ). placed dst 0 (bytesOf 4 w)) spelt ∙ placed-is dst 0 header 4 size (omega arith) in
+      let second = e₂ ∙ ap (λ (c : ℕ). sets d₁ 4 (reversedRecords flipped 8 c (drop 4 bytes))) is ∙ ap (λ (d : List ℕ). sets d 4 infos) first in
       e₃
-      ∙ ap (λ (d : List ℕ). sets d (4 + infoFieldsCount m * 8) hops) (e₂ ∙ ap (λ (d : List ℕ). sets d 4 infos) first)
+      ∙ ap₂ (λ (a c : ℕ). sets d₂ a (reversedRecords same 12 c (drop a bytes))) starts many
+      ∙ ap (λ (d : List ℕ). sets d (4 + infoFieldsCount m * 8) hops) second
       ∙ written-after infos hops (sets dst 0 header) 4 (infoFieldsCount m * 8) (length-infos (r .whole))
       ∙ written-after header (infos ++ hops) dst 0 4 size
       ∙ sets-whole (reversedPath m bytes) dst (length-reversedPath (r .whole) ∙ sym (r .exact))

@@ -29,11 +29,14 @@ returns c =
     let reversed = put .before .before .before in
     let count = reversed .before .before in
     let start = count .before .before .before in
-    let word = put .before .word-of .ensures ∙ ap wordOf (reversed .to-reversed .ensures) in
     all-written (start .args .meta-header) (start .args .bytes .now) (start .args .dst .now) (start .pre)
-    (rw word at (put .put-u32 .ensures .1))
-    (rw (count .info-fields-count .ensures .0) at (infos .reverse-info-fields .ensures))
-    (simp (from .hop-fields-start .ensures .0, reversed .before .hop-fields-count .ensures .0) at (hops .reverse-hop-fields .ensures))
+    (put .before .word-of .ensures ∙ ap wordOf (reversed .to-reversed .ensures))
+    (count .info-fields-count .ensures .0)
+    (reversed .before .hop-fields-count .ensures .0)
+    (from .hop-fields-start .ensures .0)
+    (put .put-u32 .ensures .1)
+    (infos .reverse-info-fields .ensures)
+    (hops .reverse-hop-fields .ensures)
 
 pub reverse-fields-spec : {M : Type 1} → statement M
 reverse-fields-spec =

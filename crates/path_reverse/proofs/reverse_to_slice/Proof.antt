@@ -1,5 +1,5 @@
 -- `reverse_to_slice` meets its contract: any type but 1 is copied; of a standard path reading, then the size; one that was read can be reversed.
-use mathlib.Core.Path.{refl, _∙_}
+use mathlib.Core.Path.{refl}
 use native.Mathlib.Omega.{arith}
 use Rattle.path.specs.Dataplane.{pathAnswer}
 use Rattle.path.proofs.Reading.{path-ok, path-refused, readable}
@@ -36,7 +36,7 @@ reverse-fields-requires c κs =
     let size = c .before .before in
     let told = size .before .before in
     let read = path-ok _ (told .before .before .decode .ensures) (told .enum-told .given .1) in
-    reversible (readable _ read) (c .before .if2 .left ∙ size .encoded-path-length .ensures .0)
+    reversible (readable _ read) (omega (arith, c .before .if2 .left, size .encoded-path-length .ensures .0))
 
 returns-4 : tie.Need-returns-4
 unfolding pathAnswer

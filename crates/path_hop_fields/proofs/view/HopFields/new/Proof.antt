@@ -80,7 +80,8 @@ module _ {M : Type 1} (𝓤 : URA M) (H : Heap 𝓤) (A : Atoms 𝓤) (W : Given
         (λ l₁. alloc1 !
         (λ l₂. alloc0 ! $ params1 ! $ pass1 ! (init ! 2 refl (shr-slice-lawful 𝓤 H A W (named 0) κ u8 .typed s (machine s ∷ []) p .0))
         $ pass0 ! $
-        move ! (6 ∷ []) $ use1 W (raw (Part 𝓤 H A spec.whole .pre (passed 𝓤 H A W spec.whole κ q s)) ⊛ ‵ (Own κ s)) (passes 𝓤 H A W spec.whole κ q s) $ split ! $
+        move ! (6 ∷ []) $ use1 W (raw (Part 𝓤 H A spec.whole .pre (passed 𝓤 H A W spec.whole κ q s)) ⊛ ‵ (Own κ s))
+        (passes 𝓤 H A W spec.whole κ q s) $ split ! $
         calls-at ! fm (Part 𝓤 H A spec.whole) known (passed 𝓤 H A W spec.whole κ q s)
         (and-then ! (load ! (from ! (stop !)) (look ! 4 refl)) (no-more !)) (λ u.
         use1 W (Answer 𝓤 H A W spec.whole κ q s u) (answers 𝓤 H A W spec.whole κ q s u) $ await ! tt $ pick ! (λ r. pick ! (λ e. split ! $
