@@ -1,4 +1,4 @@
--- A field read from its part is the field read where the part stands; so two fields of the same bytes are the same, and an info field
+-- A field read from its part is the field read where the part stands; so two hop fields of the same bytes are the same, and an info field
 -- tells its bytes. The direction decides which interface is which.
 -- Assumes nothing.
 use Prim.Native.Nat.{ℕ, _+_, _%_, _≤_, _<_}
@@ -64,13 +64,9 @@ module _ (bytes : List ℕ) (at : ℕ) where
   pub hop-in : at + 12 ≤ length bytes → hopFieldIn bytes at ≡ hopFieldAt bytes at
   hop-in h = rw (hop-of-part h)
 
--- a field by its bytes
-module _ (x y : List ℕ) (p q : ℕ) where
-  pub same-info : p + 8 ≤ length x → q + 8 ≤ length y → part p 8 x ≡ part q 8 y → infoFieldAt x p ≡ infoFieldAt y q
-  same-info hx hy e = sym (info-at-part x p hx) ∙ ap (λ (l : List ℕ). infoFieldAt l 0) e ∙ info-at-part y q hy
-
-  pub same-hop : p + 12 ≤ length x → q + 12 ≤ length y → part p 12 x ≡ part q 12 y → hopFieldAt x p ≡ hopFieldAt y q
-  same-hop hx hy e = sym (hop-at-part x p hx) ∙ ap (λ (l : List ℕ). hopFieldAt l 0) e ∙ hop-at-part y q hy
+-- a hop field by its bytes
+pub same-hop : (x y : List ℕ) (p q : ℕ) → p + 12 ≤ length x → q + 12 ≤ length y → part p 12 x ≡ part q 12 y → hopFieldAt x p ≡ hopFieldAt y q
+same-hop x y p q hx hy e = sym (hop-at-part x p hx) ∙ ap (λ (l : List ℕ). hopFieldAt l 0) e ∙ hop-at-part y q hy
 
 -- the bytes of an info field, by the field
 pub info-bytes : (x y : List ℕ) → Bytes x → Bytes y → (at : ℕ) → at + 8 ≤ length x → at + 8 ≤ length y → infoFieldAt x at ≡ infoFieldAt y at

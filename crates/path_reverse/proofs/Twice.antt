@@ -1,5 +1,6 @@
 -- A path that was read, reversed twice, is its own bytes again but for the pointers and the reserved bits, which are zero: every
--- field returns to its place, a flag flipped twice is as it was, and so are the lengths put in opposite order twice.
+-- field returns to its place, a flag flipped twice is as it was, and so are the lengths put in opposite order twice. The fields return
+-- under whatever headers are written (`fields-twice`), so the mirror of a mirror is the path too.
 -- Assumes nothing.
 use mathlib.Core.Path.{_≡_, refl, sym, ap, ap₂, _∙_, subst}
 use mathlib.Core.List.{List, [], _∷_, _++_, append-assoc, append-nil, flatMap}

@@ -20,9 +20,7 @@ loop-holds : tie.Need-loop-holds Inv-loop μ-loop
 loop-holds c = record { writes = refl; in-src = omega arith; in-dst = omega arith; len = refl }
 
 copy-hop-field-requires : tie.Need-copy-hop-field-requires Inv-loop μ-loop
-copy-hop-field-requires c κs =
-    let test = c .before .before in
-    lent same sized-same 12 _ _ _ _ _ _ _ (test .loop-test .taken) (test .before .loop .inv)
+copy-hop-field-requires c κs = lent same sized-same 12 _ _ _ _ _ _ _ (c .before .before .loop-test .taken) (c .before .before .before .loop .inv)
 
 loop-again : tie.Need-loop-again Inv-loop μ-loop
 unfolding same

@@ -21,8 +21,7 @@ loop-holds c = record { writes = refl; in-src = omega arith; in-dst = omega arit
 
 reverse-info-field-requires : tie.Need-reverse-info-field-requires Inv-loop μ-loop
 reverse-info-field-requires c κs =
-    let test = c .before .before in
-    lent flipped sized-flipped 8 _ _ _ _ _ _ _ (test .loop-test .taken) (test .before .loop .inv)
+    lent flipped sized-flipped 8 _ _ _ _ _ _ _ (c .before .before .loop-test .taken) (c .before .before .before .loop .inv)
 
 loop-again : tie.Need-loop-again Inv-loop μ-loop
 loop-again c =
