@@ -2,7 +2,7 @@
 -- Assumes nothing.
 use mathlib.Core.Path.{_≡_, refl}
 use mathlib.Core.Bool.{true, false}
-use Prim.Native.Nat.{_+_, _*_, _^_, _<_}
+use Prim.Native.Nat.{ℕ, _+_, _*_, _^_, _<_}
 use native.Mathlib.Omega.{arith}
 use lib.Dec.{ltb}
 use borrow.Author.Tests.{ltb-true, lt-ltb}
@@ -14,6 +14,10 @@ use Rattle.address.specs.Ia.{isdOf, asnOf, isWildcard, joined, JoinedApa
 use Rattle.address.specs.Service.{multicastOf, anycastOf, MulticastOrNot}
 use Rattle.address.specs.Host.{hostTypeOf, TypesReadBack}
 use Rattle.address.specs.declared.host.HostType.the-variants as type
+
+-- an ISD has 16 bits
+pub isd-below : (number : ℕ) → number < 2 ^ 64 → isdOf number < 2 ^ 16
+isd-below number h = omega arith
 
 pub joined-apart : JoinedApart
 unfolding joined

@@ -1,4 +1,4 @@
--- A field read from its part is the field read where the part stands; so two fields of the same bytes are the same, and an info field
+-- A field read from its part is the field read where the part stands; so two hop fields of the same bytes are the same, and an info field
 -- tells its bytes. The direction decides which interface is which.
 -- Assumes nothing.
 use Prim.Native.Nat.{ℕ, _+_, _%_, _≤_, _<_}
@@ -10,27 +10,20 @@ use native.Mathlib.Omega.{arith}
 use lib.Dec.{eqb}
 use lib.ListN.{length, getD, length-append}
 use borrow.Author.Tests.{eq-eqb}
-use Rattle.wire_encoding.specs.Result.{ok}
-use Rattle.wire_encoding.specs.BigEndian.{part}
-use Rattle.wire_encoding.proofs.Bits.{flip-made, flip-above, flip-twice}
+use Rattle.wire_encoding.specs.Result.{ok, orElse}
+use Rattle.wire_encoding.specs.BigEndian.{bigEndian, numberAt, part}
+use Rattle.wire_encoding.proofs.Bits.{flip-made, flip-above}
 use Rattle.wire_encoding.proofs.Lists.{Bytes, by-lt, length-part, getD-part, part-part, part-left, getD-by-part}
-use Rattle.wire_encoding.proofs.BigEndian.{read-part, part-by-number}
+use Rattle.wire_encoding.proofs.BigEndian.{or-zero-is, read-part, part-by-number}
 use Rattle.path_fields.specs.declared.InfoField.{InfoField}
 use Rattle.path_fields.specs.declared.HopField.{HopField}
-use Rattle.path_fields.specs.Fields.{
-  infoFieldAt,
-  newInfoField,
-  infoFieldIn,
-  constructedDir,
-  peering,
-  withConstructedDir,
-  hopFieldAt,
-  newHopField,
-  hopFieldIn,
-  interfaceOf,
-  ingressInterface,
-  egressInterface,
-}
+use Rattle.path_fields.specs.Fields.{infoFieldAt, newInfoField, infoFieldIn, constructedDir, peering, withConstructedDir, hopFieldAt}
+use Rattle.path_fields.specs.Fields.{newHopField, hopFieldIn, interfaceOf, ingressInterface, egressInterface}
+
+-- a number of a field that a total read gave, of a part that holds it
+pub read-there : (width : ℕ) (bytes : List ℕ) (at : ℕ) {n : ℕ} → n ≡ orElse (numberAt width bytes at) 0 → at + width ≤ length bytes
+    → n ≡ bigEndian width bytes at
+read-there width bytes at e h = e ∙ or-zero-is width bytes at h
 
 first-byte : (at n : ℕ) (bytes : List ℕ) → 1 ≤ n → getD (part at n bytes) 0 0 ≡ getD bytes at 0
 first-byte at n bytes h = getD-part at n bytes 0 (omega arith) ∙ ap (λ (i : ℕ). getD bytes i 0) (add-zero at)
@@ -115,17 +108,6 @@ direction-flipped info = flip-made 0 (info .flags)
 pub peering-flipped : (info : InfoField) → peering (directionFlipped info) ≡ peering info
 unfolding directionFlipped withConstructedDir
 peering-flipped info = ap (λ (n : ℕ). eqb (n % 2) 1) (flip-above (info .flags))
-
--- and flipped again it is the field
-pub direction-twice : (info : InfoField) → directionFlipped (directionFlipped info) ≡ info
-unfolding directionFlipped withConstructedDir
-direction-twice info =
-    λ i. record {
-      flags = flip-twice 0 (info .flags) i;
-      reserved = info .reserved;
-      accumulator = info .accumulator;
-      timestamp = info .timestamp;
-    }
 
 exchanged : (t : Bool) (a b : ℕ) → cond (not t) a b ≡ cond t b a
 exchanged true a b = refl

@@ -19,39 +19,8 @@ use prog.Wp.{Heap}
 use ghost.Atoms.{Atoms, sem}
 use contract.BorrowLft.{meet-⊑-left, meet-⊑-right}
 use contract.Monad.{Fun, fact}
-use types.Kit.{
-  Item,
-  Given,
-  mean,
-  ‵,
-  raw,
-  _⊛_,
-  ⋆,
-  some,
-  later,
-  _$_,
-  _∵_,
-  !,
-  qed,
-  move,
-  drop,
-  use1,
-  use2,
-  use3,
-  split,
-  join,
-  pick,
-  fsplit,
-  fjoin,
-  fpick,
-  fpack,
-  frame,
-  await,
-  updating,
-  now as at-once,
-  show,
-  done,
-}
+use types.Kit.{Item, Given, mean, ‵, raw, _⊛_, ⋆, some, later, _$_, _∵_, !, qed, move, drop, use1, use2, use3, split, join, pick, fsplit, fjoin}
+use types.Kit.{fpick, fpack, frame, await, updating, now as at-once, show, done}
 use types.Tokens.{lft-new, lft-end, lent-back}
 use types.SemTy.{Body}
 use denote.Laws.{Is, shows}

@@ -11,16 +11,8 @@ use Rattle.wire_encoding.specs.Result.{Result, ok, orElse}
 use Rattle.wire_encoding.specs.BigEndian.{part}
 use Rattle.wire_encoding.proofs.Lists.{length-part, part-part}
 use Rattle.wire_encoding.proofs.Result.{held, same-value}
-use Rattle.path_meta_header.specs.MetaHeader.{
-  infoFieldsCount,
-  hopFieldsCount,
-  firstHopField,
-  segmentLength,
-  pathLength,
-  hopFieldOffset,
-  hopFieldsStart,
-  hopStart,
-}
+use Rattle.path_meta_header.specs.MetaHeader.{infoFieldsCount, hopFieldsCount, firstHopField, segmentLength, pathLength, hopFieldOffset}
+use Rattle.path_meta_header.specs.MetaHeader.{hopFieldsStart, hopStart}
 use Rattle.path_meta_header.specs.declared.PathMetaHeader.{PathMetaHeader}
 use Rattle.errors.specs.declared.path_error.PathError.{PathError}
 use Rattle.path.specs.Segment.{Fields, nowhere}

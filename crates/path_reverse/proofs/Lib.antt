@@ -1,4 +1,5 @@
 pub mod Copy
 pub mod Examples
 pub mod Reverse
+pub mod Reversed
 pub mod Twice

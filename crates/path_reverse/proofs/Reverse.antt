@@ -1,25 +1,23 @@
 -- Laws of a reversed path: the parts of a field, the loop that writes records last one first, the size and the header of
 -- what is written.
 -- Assumes nothing.
-use mathlib.Core.Path.{_≡_, refl, sym, ap, ap₂, _∙_, subst}
+use mathlib.Core.Path.{_≡_, refl, sym, ap, ap₂, _∙_}
 use mathlib.Core.Bool.{Bool, true, false, cond}
 use mathlib.Core.List.{List, [], _∷_, _++_, flatMap, reverse as reversed, reverse-append}
 use Prim.Native.Nat.{ℕ, zero, suc, _+_, _-_, _*_, _≤_, _<_}
-use native.Mathlib.Nat.{suc-mul, zero-mul, add-comm}
+use native.Mathlib.Nat.{suc-mul, zero-mul, add-comm, add-sub-cancel-left}
 use native.Mathlib.Numerals.{sub-one}
 use native.Mathlib.Omega.{arith}
 use lib.Dec.{eqb}
 use lib.Bits.{bitXor}
 use lib.ListN.{length, take, drop, getD, set, length-append, length-drop}
-use lib.Seq.{sets, take-all, take-at, drop-drop, length-sets}
+use lib.Seq.{sets, take-all, drop-drop, length-sets}
 use borrow.Author.Tests.{lt-ltb, ne-eqb}
 use Rattle.wire_encoding.specs.BigEndian.{bigEndian, bytesOf, part, placed, records}
-use Rattle.wire_encoding.proofs.Bits.{flip-bit, flip-above}
-use Rattle.wire_encoding.proofs.Lists.{Bytes, length-part, part-join, part-right, written-after, sets-whole, bytes-append, bytes-part}
+use Rattle.wire_encoding.proofs.Bits.{flip-bit}
+use Rattle.wire_encoding.proofs.Lists.{length-part, part-join, written-after, sets-whole}
 use Rattle.wire_encoding.proofs.BigEndian.{length-bytesOf}
 use Rattle.wire_encoding.proofs.Writes.{lent-run, placed-is}
-use Rattle.path_fields.specs.Fields.{infoFieldAt, withConstructedDir}
-use Rattle.path_fields.proofs.Fields.{directionFlipped}
 use Rattle.path_meta_header.specs.MetaHeader.{nthField, metaOf, infoFieldsCount, hopFieldsCount, pathLength}
 use Rattle.path_meta_header.specs.Reversal.{atStart, reversedLengths, reversedMeta}
 use Rattle.path_meta_header.proofs.Reversal.{rowOf, row-is}
@@ -33,15 +31,7 @@ use Rattle.path.specs.Dataplane.{Extent, headless, readDataplane}
 use Rattle.path.proofs.Reading.{Readable, readable}
 use Rattle.path_reverse.specs.Copy.{into, copy}
 use Rattle.path_reverse.proofs.Copy.{into-exact, into-other}
-use Rattle.path_reverse.specs.Reverse.{
-  reversedRecords,
-  flipped,
-  same,
-  reversedPath,
-  reversedBytes,
-  reverse,
-  Reversible,
-}
+use Rattle.path_reverse.specs.Reverse.{reversedRecords, flipped, same, reversedUnder, reversedPath, reversedBytes, reverse, Reversible}
 
 -- THE PARTS OF A FIELD
 
@@ -130,22 +120,34 @@ module _ (f : List ℕ → List ℕ) (sized : Sized f) (k : ℕ) where
       pub in-dst : to + left * k ≤ length dst
       pub len : length dst ≡ length dst₀
 
-    -- the last record goes to the part that was lent for it
-    pub step : (dst now : List ℕ) (to left j m : ℕ) → 0 < left → j ≡ k → m ≡ k → Left dst to left
-        → now ≡ f (part (from + (left - 1) * k) j src) → Left (take to dst ++ (now ++ drop m (drop to dst))) (to + k) (left - 1)
-    step dst now to (suc n) j m h ej em i e =
+    -- the parts that are lent for the last record are of its size
+    pub lent : (dst : List ℕ) (to left : ℕ) → 0 < left → Left dst to left
+        → let at : ℕ = from + (left - 1) * k in (length (part at (at + k - at) src) ≡ k) × (length (part to (to + k - to) dst) ≡ k)
+    lent dst to (suc n) h i =
+        let more : suc n * k ≡ n * k + k = suc-mul n k in
+        let at : ℕ = from + (suc n - 1) * k in
+        let end : at + k ≤ length src = simp sub-one (omega arith) in (
+          ap (λ (size : ℕ). length (part at size src)) (add-sub-cancel-left at k) ∙ length-part at k src end,
+          ap (λ (size : ℕ). length (part to size dst)) (add-sub-cancel-left to k) ∙ length-part to k dst (omega arith),
+        )
+
+    -- and it is written to the second of them
+    pub step : (dst now : List ℕ) (to left : ℕ) → 0 < left → Left dst to left
+        → (let at : ℕ = from + (left - 1) * k in now ≡ f (part at (at + k - at) src))
+        → Left (take to dst ++ (now ++ drop (to + k - to) (drop to dst))) (to + k) (left - 1)
+    step dst now to (suc n) h i e =
         let more : suc n * k ≡ n * k + k = suc-mul n k in
         let last : List ℕ = f (part (n * k) k (drop from src)) in
         let rest : List ℕ = reversedRecords f k n (drop from src) in
         let size : length last ≡ k = length-record n (drop from src) (simp length-drop (omega arith)) in
         let field : now ≡ last =
         simp sub-one at e
-        ∙ ap (λ (size : ℕ). f (part (from + n * k) size src)) ej
+        ∙ ap (λ (size : ℕ). f (part (from + n * k) size src)) (add-sub-cancel-left (from + n * k) k)
         ∙ ap (λ (bytes : List ℕ). f (take k bytes)) (sym (drop-drop (n * k) from src)) in
-        let written : take to dst ++ (now ++ drop m (drop to dst)) ≡ sets dst to last =
-        ap (λ (run : List ℕ). take to dst ++ (run ++ drop m (drop to dst))) field
-        ∙ lent-run last dst to m (size ∙ sym em) (omega arith) in
-        let kept : length (take to dst ++ (now ++ drop m (drop to dst))) ≡ length dst = ap length written ∙ simp length-sets in
+        let written : take to dst ++ (now ++ drop (to + k - to) (drop to dst)) ≡ sets dst to last =
+        ap (λ (run : List ℕ). take to dst ++ (run ++ drop (to + k - to) (drop to dst))) field
+        ∙ lent-run last dst to (to + k - to) (size ∙ sym (add-sub-cancel-left to k)) (omega arith) in
+        let kept : length (take to dst ++ (now ++ drop (to + k - to) (drop to dst))) ≡ length dst = ap length written ∙ simp length-sets in
         simp sub-one (record {
           writes = ap (λ (d : List ℕ). sets d (to + k) rest) written ∙ written-after last rest dst to k size
               ∙ ap (sets dst to) (sym (last-first f k n (drop from src))) ∙ i .writes;
@@ -161,40 +163,51 @@ module _ (f : List ℕ → List ℕ) (sized : Sized f) (k : ℕ) where
 -- THE WHOLE PATH
 
 module _ (m : PathMetaHeader) (bytes : List ℕ) where
-  abbrev header : List ℕ
-  header = bytesOf 4 (wordOf (reversedMeta m))
-
-  abbrev infos : List ℕ
+  -- what is written of the info fields, and of the hop fields
+  abbrev pub infos : List ℕ
   infos = reversedRecords flipped 8 (infoFieldsCount m) (drop 4 bytes)
 
-  abbrev hops : List ℕ
+  abbrev pub hops : List ℕ
   hops = reversedRecords same 12 (hopFieldsCount m) (drop (4 + infoFieldsCount m * 8) bytes)
 
   module _ (whole : pathLength m ≤ length bytes) where
-    length-infos : length infos ≡ infoFieldsCount m * 8
+    -- the source holds them
+    pub infos-room : infoFieldsCount m * 8 ≤ length (drop 4 bytes)
     unfolding pathLength
-    length-infos =
-        length-reversedRecords flipped sized-flipped 8 (infoFieldsCount m) (drop 4 bytes) (simp length-drop (omega arith))
+    infos-room = simp length-drop (omega arith)
+
+    pub hops-room : hopFieldsCount m * 12 ≤ length (drop (4 + infoFieldsCount m * 8) bytes)
+    unfolding pathLength
+    hops-room = simp length-drop (omega arith)
+
+    pub length-infos : length infos ≡ infoFieldsCount m * 8
+    length-infos = length-reversedRecords flipped sized-flipped 8 (infoFieldsCount m) (drop 4 bytes) infos-room
 
     length-hops : length hops ≡ hopFieldsCount m * 12
-    unfolding pathLength
-    length-hops =
-        length-reversedRecords same sized-same 12 (hopFieldsCount m) (drop (4 + infoFieldsCount m * 8) bytes)
-        (simp length-drop (omega arith))
+    length-hops = length-reversedRecords same sized-same 12 (hopFieldsCount m) (drop (4 + infoFieldsCount m * 8) bytes) hops-room
+
+    pub length-reversed : (h : PathMetaHeader) → length (reversedUnder h m bytes) ≡ pathLength m
+    unfolding reversedUnder pathLength
+    length-reversed h = simp (length-append, length-bytesOf, length-infos, length-hops) (omega arith)
 
     pub length-reversedPath : length (reversedPath m bytes) ≡ pathLength m
-    unfolding reversedPath pathLength
-    length-reversedPath = simp (length-append, length-bytesOf, length-infos, length-hops) (omega arith)
+    unfolding reversedPath
+    length-reversedPath = length-reversed (reversedMeta m)
 
-  -- the three writes, one after another, are the path reversed
-  pub all-written : (dst : List ℕ) {d₁ d₂ d₃ : List ℕ} → Reversible m (length bytes) (length dst) → d₁ ≡ placed dst 0 header
-      → d₂ ≡ sets d₁ 4 infos → d₃ ≡ sets d₂ (4 + infoFieldsCount m * 8) hops → d₃ ≡ reversedPath m bytes
-  unfolding reversedPath pathLength
-  all-written dst r e₁ e₂ e₃ =
+  -- the three writes, one after another, of the reversed word and of as many fields as there are, are the path reversed
+  pub all-written : (dst : List ℕ) {word i n at : ℕ} {d₁ d₂ d₃ : List ℕ} → Reversible m (length bytes) (length dst)
+      → word ≡ wordOf (reversedMeta m) → i ≡ infoFieldsCount m → n ≡ hopFieldsCount m → at ≡ 4 + infoFieldsCount m * 8
+      → d₁ ≡ placed dst 0 (bytesOf 4 word) → d₂ ≡ sets d₁ 4 (reversedRecords flipped 8 i (drop 4 bytes))
+      → d₃ ≡ sets d₂ at (reversedRecords same 12 n (drop at bytes)) → d₃ ≡ reversedPath m bytes
+  unfolding reversedPath reversedUnder pathLength
+  all-written dst {d₁ = d₁} {d₂ = d₂} r spelt is many starts e₁ e₂ e₃ =
+      let header : List ℕ = bytesOf 4 (wordOf (reversedMeta m)) in
       let size : length header ≡ 4 = length-bytesOf 4 (wordOf (reversedMeta m)) in
-      let first = e₁ ∙ placed-is dst 0 header 4 size (omega arith) in
+      let first = e₁ ∙ ap (λ (w : ℕ). placed dst 0 (bytesOf 4 w)) spelt ∙ placed-is dst 0 header 4 size (omega arith) in
+      let second = e₂ ∙ ap (λ (c : ℕ). sets d₁ 4 (reversedRecords flipped 8 c (drop 4 bytes))) is ∙ ap (λ (d : List ℕ). sets d 4 infos) first in
       e₃
-      ∙ ap (λ (d : List ℕ). sets d (4 + infoFieldsCount m * 8) hops) (e₂ ∙ ap (λ (d : List ℕ). sets d 4 infos) first)
+      ∙ ap₂ (λ (a c : ℕ). sets d₂ a (reversedRecords same 12 c (drop a bytes))) starts many
+      ∙ ap (λ (d : List ℕ). sets d (4 + infoFieldsCount m * 8) hops) second
       ∙ written-after infos hops (sets dst 0 header) 4 (infoFieldsCount m * 8) (length-infos (r .whole))
       ∙ written-after header (infos ++ hops) dst 0 4 size
       ∙ sets-whole (reversedPath m bytes) dst (length-reversedPath (r .whole) ∙ sym (r .exact))
@@ -236,54 +249,6 @@ reversible {bytes} r e = record {
   whole = r .whole;
   exact = e;
 }
-
--- WHAT A REVERSED PATH HOLDS
-
--- record j of records written last one first
-pub part-reversedRecords : (f : List ℕ → List ℕ) → Sized f → (s n j : ℕ) (bytes : List ℕ) → j < n → n * s ≤ length bytes
-    → part (j * s) s (reversedRecords f s n bytes) ≡ f (part ((n - 1 - j) * s) s bytes)
-part-reversedRecords f sized s zero j bytes l h = absurd (omega arith)
-part-reversedRecords f sized s (suc n) zero bytes l h =
-    let more : suc n * s ≡ n * s + s = suc-mul n s in
-    let none : zero * s ≡ 0 = zero-mul s in
-    let last : List ℕ = f (part (n * s) s bytes) in
-    let at : n ≡ suc n - 1 - 0 = omega arith in
-    ap (part (zero * s) s) (last-first f s n bytes)
-    ∙ ap (λ (p : ℕ). part p s (last ++ reversedRecords f s n bytes)) none
-    ∙ take-at last (reversedRecords f s n bytes) s (sized (part (n * s) s bytes) ∙ length-part (n * s) s bytes (omega arith))
-    ∙ ap (λ (i : ℕ). f (part (i * s) s bytes)) at
-part-reversedRecords f sized s (suc n) (suc j) bytes l h =
-    let more : suc n * s ≡ n * s + s = suc-mul n s in
-    let next : suc j * s ≡ s + j * s = suc-mul j s ∙ add-comm (j * s) s in
-    let last : List ℕ = f (part (n * s) s bytes) in
-    let at : n - 1 - j ≡ suc n - 1 - suc j = omega arith in
-    ap (part (suc j * s) s) (last-first f s n bytes)
-    ∙ ap (λ (p : ℕ). part p s (last ++ reversedRecords f s n bytes)) next
-    ∙ part-right s (j * s) s last (reversedRecords f s n bytes) (sized (part (n * s) s bytes) ∙ length-part (n * s) s bytes (omega arith))
-    ∙ part-reversedRecords f sized s n j bytes (omega arith) (omega arith)
-    ∙ ap (λ (i : ℕ). f (part (i * s) s bytes)) at
-
--- an info field by its eight bytes
-pub info-flipped : (l : List ℕ) → length l ≡ 8 → infoFieldAt (flipped l) 0 ≡ directionFlipped (infoFieldAt l 0)
-unfolding flipped infoFieldAt bigEndian directionFlipped withConstructedDir
-info-flipped [] h = absurd (omega arith)
-info-flipped (flags ∷ rest) h = refl
-
--- bytes stay bytes
-pub bytes-flipped : (l : List ℕ) → Bytes l → Bytes (flipped l)
-unfolding flipped
-bytes-flipped [] h k = h k
-bytes-flipped (v ∷ l) h zero = omega (arith, h zero, flip-above v)
-bytes-flipped (v ∷ l) h (suc k) = h (suc k)
-
-pub bytes-reversedRecords : (f : List ℕ → List ℕ) → ((l : List ℕ) → Bytes l → Bytes (f l)) → (s n : ℕ) (l : List ℕ) → Bytes l
-    → Bytes (reversedRecords f s n l)
-unfolding reversedRecords records flatMap
-bytes-reversedRecords f kept s zero l h = λ k. omega arith
-bytes-reversedRecords f kept s (suc n) l h =
-    subst (λ (x : List ℕ). Bytes x) (sym (last-first f s n l))
-    (bytes-append (f (part (n * s) s l)) (reversedRecords f s n l) (kept (part (n * s) s l) (bytes-part (n * s) s l h))
-    (bytes-reversedRecords f kept s n l h))
 
 -- THE CALL
 

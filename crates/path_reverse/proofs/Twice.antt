@@ -1,29 +1,27 @@
 -- A path that was read, reversed twice, is its own bytes again but for the pointers and the reserved bits, which are zero: every
--- field returns to its place, a flag flipped twice is as it was, and so are the lengths put in opposite order twice.
+-- field returns to its place, a flag flipped twice is as it was, and so are the lengths put in opposite order twice. The fields return
+-- under whatever headers are written (`fields-twice`), so the mirror of a mirror is the path too.
 -- Assumes nothing.
 use mathlib.Core.Path.{_≡_, refl, sym, ap, ap₂, _∙_, subst}
-use mathlib.Core.Bool.{Bool, true, false, not}
 use mathlib.Core.List.{List, [], _∷_, _++_, append-assoc, append-nil, flatMap}
-use Prim.Native.Nat.{ℕ, zero, suc, _+_, _-_, _*_, _/_, _%_, _^_, _≤_}
+use Prim.Native.Nat.{ℕ, zero, suc, _+_, _-_, _*_, _≤_}
 use native.Mathlib.Nat.{suc-mul, zero-mul, add-comm}
 use native.Mathlib.Omega.{arith}
-use lib.ListN.{length, take, drop, length-drop}
+use lib.ListN.{length, take, drop}
 use lib.Seq.{drop-drop, drop-append-add, drop-at, take-at, take-add}
-use lib.Dec.{eqb}
-use borrow.Author.Tests.{ne-eqb, eqb-true}
-use Rattle.wire_encoding.specs.Bits.{bitOf, withBit}
-use Rattle.wire_encoding.specs.BigEndian.{bytesOf, part, records}
-use Rattle.wire_encoding.proofs.Bits.{bit-kept}
-use Rattle.wire_encoding.proofs.Lists.{length-part}
+use Rattle.wire_encoding.specs.BigEndian.{bigEndian, bytesOf, part, records}
+use Rattle.wire_encoding.proofs.Bits.{flip-twice}
+use Rattle.wire_encoding.proofs.Lists.{length-part, part-join}
 use Rattle.wire_encoding.proofs.BigEndian.{length-bytesOf}
-use Rattle.path_meta_header.specs.MetaHeader.{metaOf, segmentLength, infoFieldsCount, hopFieldsCount, pathLength}
-use Rattle.path_meta_header.specs.Reversal.{atStart, reversedLengths, reversedMeta}
+use Rattle.path_meta_header.specs.MetaHeader.{infoFieldsCount, hopFieldsCount, pathLength}
+use Rattle.path_meta_header.specs.Reversal.{atStart, reversedMeta}
 use Rattle.path_meta_header.specs.Encoding.{wordOf}
 use Rattle.path_meta_header.specs.declared.PathMetaHeader.{PathMetaHeader}
-use Rattle.path_meta_header.proofs.MetaHeader.{Segments, one, two, three, segments}
-use Rattle.path.proofs.Reading.{Readable, readable}
-use Rattle.path_reverse.specs.Reverse.{reversedRecords, flipped, same, reversedPath, ReversedTwice}
-use Rattle.path_reverse.proofs.Reverse.{Sized, sized-flipped, sized-same, last-first, length-reversedRecords}
+use Rattle.path_meta_header.proofs.MetaHeader.{Lengths, lengths-read}
+use Rattle.path_meta_header.proofs.Reversal.{row-is, RowsOf, rows, rows-back, rows-infos, rows-hops, rows-twice}
+use Rattle.path.proofs.Reading.{readable}
+use Rattle.path_reverse.specs.Reverse.{reversedRecords, flipped, same, reversedUnder, reversedPath, ReversedTwice}
+use Rattle.path_reverse.proofs.Reverse.{Sized, sized-flipped, sized-same, last-first, infos, hops, infos-room, hops-room, length-infos}
 
 -- THE RECORDS
 
@@ -66,61 +64,18 @@ module _ (f : List ℕ → List ℕ) (k : ℕ) where
       ∙ sym (take-add (n * k) k bytes)
       ∙ ap (λ (p : ℕ). take p bytes) (sym more)
 
--- a flag flipped twice is as it was
-flag-twice : (n : ℕ) → withBit 0 (not (bitOf 0 (withBit 0 (not (bitOf 0 n)) n))) (withBit 0 (not (bitOf 0 n)) n) ≡ n
-unfolding withBit
-flag-twice n = go (bitOf 0 n) refl
-  where
-    go : (v : Bool) → bitOf 0 n ≡ v → withBit 0 (not (bitOf 0 (withBit 0 (not (bitOf 0 n)) n))) (withBit 0 (not (bitOf 0 n)) n) ≡ n
-    go true e =
-        let cleared : bitOf 0 (n - 1) ≡ false = rw e at (bit-kept 0 n false .made) in
-        rw (e, e, cleared, cleared) (omega (arith, eqb-true (n / 2 ^ 0 % 2) 1 e))
-    go false e =
-        let set : bitOf 0 (n + 1) ≡ true = rw e at (bit-kept 0 n true .made) in
-        rw (e, e, set, set) (omega arith)
-
 undone-flipped : Undone flipped
 unfolding flipped
 undone-flipped [] = refl
-undone-flipped (flags ∷ rest) = ap (λ (n : ℕ). n ∷ rest) (flag-twice flags)
+undone-flipped (flags ∷ rest) = ap (λ (n : ℕ). n ∷ rest) (flip-twice 0 flags)
 
 undone-same : Undone same
 unfolding same
 undone-same field = refl
 
--- THE HEADER
+-- THE FIELDS
 
--- a reversed header counts as many fields, and reversed again has the lengths that it had
-record Back (m : PathMetaHeader) : Type 0 where
-  infos-kept : infoFieldsCount (reversedMeta m) ≡ infoFieldsCount m
-  hops-kept : hopFieldsCount (reversedMeta m) ≡ hopFieldsCount m
-  lengths-back : reversedMeta (reversedMeta m) ≡ atStart (segmentLength m 0 ∷ segmentLength m 1 ∷ segmentLength m 2 ∷ [])
-
-module _ (m : PathMetaHeader) where
-  not-zero : (k : ℕ) → 1 ≤ segmentLength m k → eqb (segmentLength m k) 0 ≡ false
-  not-zero k h = ne-eqb (segmentLength m k) 0 (λ e. omega arith)
-
-  back : {n : ℕ} → Segments (segmentLength m 0) (segmentLength m 1) (segmentLength m 2) n → Back m
-  unfolding infoFieldsCount hopFieldsCount reversedMeta atStart reversedLengths
-  back (one first second third) = record {
-    infos-kept = simp (not-zero 0 first, second, third);
-    hops-kept = simp (not-zero 0 first, second, third);
-    lengths-back = simp (not-zero 0 first, second, third);
-  }
-  back (two first second third) = record {
-    infos-kept = simp (not-zero 0 first, not-zero 1 second, third);
-    hops-kept = simp (not-zero 0 first, not-zero 1 second, third) (omega arith);
-    lengths-back = simp (not-zero 0 first, not-zero 1 second, third);
-  }
-  back (three first second third) = record {
-    infos-kept = simp (not-zero 0 first, not-zero 1 second, not-zero 2 third);
-    hops-kept = simp (not-zero 0 first, not-zero 1 second, not-zero 2 third) (omega arith);
-    lengths-back = simp (not-zero 0 first, not-zero 1 second, not-zero 2 third);
-  }
-
--- THE PATH
-
-module _ {bytes : List ℕ} {m : PathMetaHeader} (r : Readable bytes m) where
+module _ (m : PathMetaHeader) (bytes : List ℕ) (whole : pathLength m ≤ length bytes) (h : PathMetaHeader) where
   -- the numbers of info fields and of hop fields
   abbrev I : ℕ
   I = infoFieldsCount m
@@ -128,72 +83,47 @@ module _ {bytes : List ℕ} {m : PathMetaHeader} (r : Readable bytes m) where
   abbrev N : ℕ
   N = hopFieldsCount m
 
-  -- what is written of the path once: header, info fields, hop fields
-  abbrev header : List ℕ
-  header = bytesOf 4 (wordOf (reversedMeta m))
-
-  abbrev infos : List ℕ
-  infos = reversedRecords flipped 8 I (drop 4 bytes)
-
-  abbrev hops : List ℕ
-  hops = reversedRecords same 12 N (drop (4 + I * 8) bytes)
-
-  -- the header: its lengths are valid, and they are three
-  header-back : Back m
-  header-back = back m (segments m (r .sound-meta .lengths))
-
-  lengths-three : segmentLength m 0 ∷ segmentLength m 1 ∷ segmentLength m 2 ∷ [] ≡ m .«segment_lengths»
-  unfolding metaOf
-  lengths-three =
-      subst (λ (h : PathMetaHeader). segmentLength h 0 ∷ segmentLength h 1 ∷ segmentLength h 2 ∷ [] ≡ h .«segment_lengths») (sym (r .word)) refl
-
-  header-twice : reversedMeta (reversedMeta m) ≡ atStart (m .«segment_lengths»)
-  header-twice = header-back .lengths-back ∙ ap atStart lengths-three
-
-  -- the source holds its fields
-  infos-room : I * 8 ≤ length (drop 4 bytes)
-  unfolding pathLength
-  infos-room = simp length-drop (omega (arith, r .whole))
-
-  hops-room : N * 12 ≤ length (drop (4 + I * 8) bytes)
-  unfolding pathLength
-  hops-room = simp length-drop (omega (arith, r .whole))
-
   -- what follows the header of the reversed path, and what follows its info fields
-  after-header : drop 4 (reversedPath m bytes) ≡ infos ++ hops
-  unfolding reversedPath
-  after-header = drop-at header (infos ++ hops) 4 (length-bytesOf 4 (wordOf (reversedMeta m)))
+  after-header : drop 4 (reversedUnder h m bytes) ≡ infos m bytes ++ hops m bytes
+  unfolding reversedUnder
+  after-header = drop-at (bytesOf 4 (wordOf h)) (infos m bytes ++ hops m bytes) 4 (length-bytesOf 4 (wordOf h))
 
-  after-infos : drop (4 + I * 8) (reversedPath m bytes) ≡ hops
+  after-infos : drop (4 + I * 8) (reversedUnder h m bytes) ≡ hops m bytes
   after-infos =
-      sym (drop-drop (I * 8) 4 (reversedPath m bytes))
+      sym (drop-drop (I * 8) 4 (reversedUnder h m bytes))
       ∙ ap (drop (I * 8)) after-header
-      ∙ drop-at infos hops (I * 8) (length-reversedRecords flipped sized-flipped 8 I (drop 4 bytes) infos-room)
+      ∙ drop-at (infos m bytes) (hops m bytes) (I * 8) (length-infos m bytes whole)
 
   -- the fields of each kind
-  infos-twice : reversedRecords flipped 8 I (drop 4 (reversedPath m bytes)) ≡ part 4 (I * 8) bytes
+  infos-twice : reversedRecords flipped 8 I (drop 4 (reversedUnder h m bytes)) ≡ part 4 (I * 8) bytes
   infos-twice =
       ap (reversedRecords flipped 8 I) after-header
-      ∙ records-twice flipped 8 sized-flipped undone-flipped I (drop 4 bytes) hops infos-room
+      ∙ records-twice flipped 8 sized-flipped undone-flipped I (drop 4 bytes) (hops m bytes) (infos-room m bytes whole)
 
-  hops-twice : reversedRecords same 12 N (drop (4 + I * 8) (reversedPath m bytes)) ≡ part (4 + I * 8) (N * 12) bytes
+  hops-twice : reversedRecords same 12 N (drop (4 + I * 8) (reversedUnder h m bytes)) ≡ part (4 + I * 8) (N * 12) bytes
   hops-twice =
-      ap (reversedRecords same 12 N) (after-infos ∙ sym (append-nil hops))
-      ∙ records-twice same 12 sized-same undone-same N (drop (4 + I * 8) bytes) [] hops-room
+      ap (reversedRecords same 12 N) (after-infos ∙ sym (append-nil (hops m bytes)))
+      ∙ records-twice same 12 sized-same undone-same N (drop (4 + I * 8) bytes) [] (hops-room m bytes whole)
 
-  -- the info fields, then the hop fields, are all that follows the header
-  fields-whole : part 4 (I * 8) bytes ++ part (4 + I * 8) (N * 12) bytes ≡ part 4 (pathLength m - 4) bytes
-  unfolding pathLength
-  fields-whole =
+  -- reversed twice, the second time under a header t that counts as many, they are what followed the header
+  pub fields-twice : (h′ t : PathMetaHeader) → infoFieldsCount t ≡ infoFieldsCount m → hopFieldsCount t ≡ hopFieldsCount m
+      → reversedUnder h′ t (reversedUnder h m bytes) ≡ bytesOf 4 (wordOf h′) ++ part 4 (pathLength m - 4) bytes
+  unfolding reversedUnder pathLength
+  fields-twice h′ t i n =
       let size : I * 8 + N * 12 ≡ pathLength m - 4 = omega arith in
-      ap (λ (l : List ℕ). part 4 (I * 8) bytes ++ take (N * 12) l) (sym (drop-drop (I * 8) 4 bytes))
-      ∙ sym (take-add (I * 8) (N * 12) (drop 4 bytes))
-      ∙ ap (λ (n : ℕ). part 4 n bytes) size
+      rw (i, n, infos-twice, hops-twice, part-join 4 (I * 8) (N * 12) bytes, size)
+
+-- THE PATH
 
 -- of any numbers: that they are bytes is not needed
 pub reversed-twice : ReversedTwice
-unfolding reversedPath
+unfolding reversedPath reversedMeta atStart
 reversed-twice bytes m read =
     let r = readable bytes read in
-    let header = header-back r in
-    rw (header .infos-kept, header .hops-kept, header-twice r, infos-twice r, hops-twice r, fields-whole r)
+    let I : ℕ = infoFieldsCount m in
+    let t : PathMetaHeader = reversedMeta m in
+    let opposite : RowsOf m t I = rows m t (r .sound-meta .lengths) refl in
+    let lengths : Lengths m = subst Lengths (sym (r .word)) (lengths-read (bigEndian 4 bytes 0)) in
+    fields-twice m bytes (r .whole) t (reversedMeta t) t (rows-infos t m I (rows-back opposite)) (rows-hops m t I opposite)
+    ∙ ap (λ (l : List ℕ). bytesOf 4 (wordOf (atStart l)) ++ part 4 (pathLength m - 4) bytes)
+    (row-is t ∙ rows-twice opposite ∙ lengths .these)

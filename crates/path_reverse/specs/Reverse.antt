@@ -1,6 +1,6 @@
 -- The draft's Path Reversal (document 01's turn): segments, Info Fields and Hop Fields in opposite order, each Construction
 -- Direction flag flipped, CurrINF, CurrHF and RSV zero.
-use Prim.Native.Nat.{ℕ, _+_, _-_, _≤_}
+use Prim.Native.Nat.{ℕ, _-_, _≤_}
 use mathlib.Core.Path.{_≡_}
 use mathlib.Core.Bool.{true, not, cond}
 use mathlib.Core.List.{List, [], _∷_, _++_, flatMap, reverse as reversed}
@@ -33,12 +33,16 @@ flipped (flags ∷ rest) = withBit 0 (not (bitOf 0 flags)) flags ∷ rest
 unfoldable pub same : List ℕ → List ℕ
 same field = field
 
--- the whole path reversed
-unfoldable pub reversedPath : PathMetaHeader → List ℕ → List ℕ
-reversedPath m bytes =
-    bytesOf metaHeaderLength (wordOf (reversedMeta m))
+-- the fields of a path that was read under m reversed, after the header h
+unfoldable pub reversedUnder : PathMetaHeader → PathMetaHeader → List ℕ → List ℕ
+reversedUnder h m bytes =
+    bytesOf metaHeaderLength (wordOf h)
     ++ (reversedRecords flipped infoFieldLength (infoFieldsCount m) (drop (infoStart 0) bytes)
     ++ reversedRecords same hopFieldLength (hopFieldsCount m) (drop (hopFieldsStart m) bytes))
+
+-- the whole path reversed
+unfoldable pub reversedPath : PathMetaHeader → List ℕ → List ℕ
+reversedPath m bytes = reversedUnder (reversedMeta m) m bytes
 
 -- reversed twice: the path that was read, with its pointers at the start and its reserved bits zero
 abbrev pub ReversedTwice : Type 0

@@ -27,19 +27,8 @@ use Rattle.path_moves.proofs.Moves.{counts-kept}
 use Rattle.path_moves.proofs.Fields.{changedBy, changeAt, change-none, change-outside, hop-field-kept, info-field-moved}
 use Rattle.round_trip.specs.Mirror.{reversedMetaAt, mirrorMeta, mirror}
 use Rattle.round_trip.proofs.Fields.{Spells, same-path}
-use Rattle.round_trip.proofs.Mirror.{
-  Path,
-  spells,
-  info-below,
-  hop-named,
-  rows-mirror,
-  mirror-infos,
-  mirror-hops,
-  mirror-field,
-  mirror-info,
-  mirror-segment,
-  path-mirror,
-}
+use Rattle.round_trip.proofs.Mirror.{Path, spells, info-below, hop-named, rows-mirror, mirror-infos, mirror-hops, mirror-field, mirror-info}
+use Rattle.round_trip.proofs.Mirror.{mirror-segment, path-mirror}
 use Rattle.round_trip.proofs.Moved.{can-move, path-moved}
 
 -- the same change twice

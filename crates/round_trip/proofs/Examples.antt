@@ -31,8 +31,8 @@ pub computed : examples.Computed
 unfolding bigEndian bytesOf room withBit fields.infoFieldAt fields.hopFieldAt fields.interfaceOf fields.ingressInterface fields.egressInterface
     meta.nthField meta.metaOf meta.infoFieldsCount meta.hopFieldsCount meta.segmentOf meta.firstHopField meta.pathLength meta.lengthsValid
     meta.hopValid meta.infoValid meta.checked meta.readMeta encoding.wordOf reversal.atStart reversal.reversedLengths reversal.reversedMeta
-    standard.readPath dataplane.readDataplane dataplane.standard dataplane.metaHeaderOf copy.into
-    flatMap records reverse.reversedRecords reverse.flipped reverse.same reverse.reversedPath reverse.reversedBytes reverse.reverse
+    standard.readPath dataplane.readDataplane dataplane.standard dataplane.metaHeaderOf copy.into flatMap records
+    reverse.reversedRecords reverse.flipped reverse.same reverse.reversedUnder reverse.reversedPath reverse.reversedBytes reverse.reverse
     rules.ownerOf rules.spared rules.somePeering rules.peeringPath rules.peeringAllowed rules.movable
     moves.takesIn moves.moveBytes moves.isLast moves.move moves.moved moves.walkMoves moves.walk moves.walked
     moves.infoOf moves.accumulatorAfter moves.accumulatorBy

@@ -3,13 +3,13 @@
 -- Assumes nothing.
 use Prim.Native.Nat.{ℕ, _+_, _-_, _*_, _/_, _<_}
 use mathlib.Core.Path.{_≡_, sym, ap, _∙_}
-use mathlib.Core.List.{List}
+use mathlib.Core.List.{List, _++_}
 use native.Mathlib.Omega.{arith}
 use lib.ListN.{length, getD}
-use lib.Seq.{ext-getD}
-use Rattle.wire_encoding.specs.BigEndian.{bigEndian, part}
-use Rattle.wire_encoding.proofs.Lists.{Bytes, by-lt, getD-by-part}
-use Rattle.wire_encoding.proofs.BigEndian.{below, part-by-number}
+use lib.Seq.{ext-getD, take-all}
+use Rattle.wire_encoding.specs.BigEndian.{bigEndian, bytesOf, part}
+use Rattle.wire_encoding.proofs.Lists.{Bytes, by-lt, getD-by-part, part-join}
+use Rattle.wire_encoding.proofs.BigEndian.{below, bytes-read, part-by-number}
 use Rattle.path_fields.proofs.Fields.{info-bytes}
 use Rattle.path_meta_header.specs.MetaHeader.{metaOf, infoFieldsCount, hopFieldsCount, pathLength, infoStart, hopStart}
 use Rattle.path_meta_header.specs.Encoding.{wordOf}
@@ -25,6 +25,15 @@ pub record Spells (x : List ℕ) (m : PathMetaHeader) : Type 0 where
 
 spelt : (x : List ℕ) (m : PathMetaHeader) → Spells x m → wordOf m ≡ bigEndian 4 x 0
 spelt x m s = ap wordOf (s .word) ∙ word-back (bigEndian 4 x 0) (omega (arith, below x (s .small) 0 4))
+
+-- they are the header's word and what follows it
+pub spelt-out : (x : List ℕ) (m : PathMetaHeader) → Spells x m → bytesOf 4 (wordOf m) ++ part 4 (pathLength m - 4) x ≡ x
+unfolding pathLength
+spelt-out x m s =
+    ap (λ (w : ℕ). bytesOf 4 w ++ part 4 (pathLength m - 4) x) (spelt x m s)
+    ∙ ap (λ (head : List ℕ). head ++ part 4 (pathLength m - 4) x) (bytes-read 4 x (s .small) 0 (omega (arith, s .exact)))
+    ∙ part-join 0 4 (pathLength m - 4) x
+    ∙ take-all (4 + (pathLength m - 4)) x (omega (arith, s .exact))
 
 pub same-path : (x y : List ℕ) (m : PathMetaHeader) → Spells x m → Spells y m
     → ((k : ℕ) → k < infoFieldsCount m → infoAt x k ≡ infoAt y k)

@@ -17,71 +17,14 @@ use Rattle.path_moves.specs.Moves as moves
 use Rattle.wire_encoding.specs.Result.{mapped, orElse}
 use Rattle.path.specs.Dataplane.{Written, metaHeaderOf}
 use Rattle.path_reverse.specs.Reverse.{reverse}
-use Rattle.round_trip.specs.RoundTrip.{
-  reversedInto,
-  End,
-  first,
-  other,
-  Packet,
-  State,
-  begin,
-  byEnd,
-  Event,
-  sending,
-  single-move,
-  walk,
-  loss,
-  doubling,
-  arrival,
-  onTheWay,
-  onPacket,
-  sent,
-  packetMoved,
-  packetWalked,
-  without,
-  hopCount,
-  pointer,
-  atLast,
-  holding,
-  arrived,
-  step,
-  after,
-  met,
-  meets,
-  Begun,
-  Stands,
-  All,
-  reply,
-  reached,
-  Claim,
-}
+use Rattle.round_trip.specs.RoundTrip.{reversedInto, End, first, other, Packet, State, begin, byEnd, Event, sending, single-move, walk, loss}
+use Rattle.round_trip.specs.RoundTrip.{doubling, arrival, onTheWay, onPacket, sent, packetMoved, packetWalked, without, hopCount, pointer}
+use Rattle.round_trip.specs.RoundTrip.{atLast, holding, arrived, step, after, met, meets, Begun, Stands, All, reply, reached, Claim}
 use Rattle.round_trip.proofs.Mirror.{Path}
 use Rattle.round_trip.proofs.Meetings.{path-header}
-use Rattle.round_trip.proofs.Calls.{
-  read-accepted,
-  move-accepted,
-  move-refused,
-  walk-accepted,
-  walked-moves,
-  reverse-accepted,
-  reverse-refused,
-}
-use Rattle.round_trip.proofs.Packets.{
-  track,
-  trackMeta,
-  some-hop,
-  track-path,
-  track-pointer,
-  track-hops,
-  track-met,
-  track-moved,
-  walk-inside,
-  track-walked,
-  track-length,
-  reversed-out,
-  reversed-back,
-  reply-track,
-}
+use Rattle.round_trip.proofs.Calls.{read-accepted, move-accepted, move-refused, walk-accepted, walked-moves, reverse-accepted, reverse-refused}
+use Rattle.round_trip.proofs.Packets.{track, trackMeta, some-hop, track-path, track-pointer, track-hops, track-met, track-moved, walk-inside}
+use Rattle.round_trip.proofs.Packets.{track-walked, track-length, reversed-out, reversed-back, reply-track}
 
 -- EVERY ELEMENT OF A LIST
 

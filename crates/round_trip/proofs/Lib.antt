@@ -1,5 +1,4 @@
 pub mod Fields
-pub mod Reversed
 pub mod Mirror
 pub mod Moved
 pub mod Back

@@ -11,15 +11,7 @@ use Rattle.wire_encoding.specs.Bits.{bitOf}
 use Rattle.wire_encoding.specs.BigEndian.{part}
 use Rattle.path_fields.specs.Fields.{constructedDir, withConstructedDir, ingressInterface, egressInterface}
 use Rattle.path_fields.specs.declared.InfoField.{InfoField}
-use Rattle.path_fields.proofs.Fields.{
-  directionFlipped,
-  direction-flipped,
-  same-hop,
-  ingress-same,
-  egress-same,
-  ingress-exchanged,
-  egress-exchanged,
-}
+use Rattle.path_fields.proofs.Fields.{directionFlipped, direction-flipped, same-hop, ingress-same, egress-same, ingress-exchanged, egress-exchanged}
 use Rattle.path_meta_header.specs.MetaHeader.{infoFieldsCount, hopFieldsCount, segmentOf, hopStart}
 use Rattle.path_meta_header.specs.declared.PathMetaHeader.{PathMetaHeader}
 use Rattle.path_meta_header.proofs.MetaHeader.{segment-below}
@@ -29,17 +21,8 @@ use Rattle.path.proofs.Reading.{header-read}
 use Rattle.path_moves.specs.Moves.{accumulatorBy, atPosition, infoOf}
 use Rattle.round_trip.specs.RoundTrip.{Meeting, meeting, met, byPath, exchanged}
 use Rattle.round_trip.specs.Mirror.{reversedMetaAt, mirrorMeta, mirror}
-use Rattle.round_trip.proofs.Mirror.{
-  Path,
-  path-whole,
-  hop-below,
-  mirror-infos,
-  mirror-hops,
-  mirror-field,
-  mirror-info,
-  mirror-segment,
-  path-mirror,
-}
+use Rattle.round_trip.proofs.Mirror.{Path, path-whole, hop-below, mirror-infos, mirror-hops, mirror-field, mirror-info, mirror-segment}
+use Rattle.round_trip.proofs.Mirror.{path-mirror}
 use Rattle.round_trip.proofs.Onward.{standingAt, Onward}
 
 -- reading a path finds its header

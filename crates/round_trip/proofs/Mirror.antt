@@ -4,43 +4,31 @@
 use Prim.Native.Nat.{ℕ, _+_, _-_, _*_, _≤_, _<_}
 use mathlib.Core.Path.{_≡_, refl, sym, ap, ap₂, _∙_, subst}
 use mathlib.Core.Bool.{Bool, true, false, not, _&&_, _||_}
-use mathlib.Core.List.{List}
+use mathlib.Core.List.{List, _++_}
 use native.Mathlib.Omega.{arith}
 use lib.Dec.{eqb}
 use lib.ListN.{length}
-use Rattle.wire_encoding.specs.BigEndian.{bigEndian, part}
+use Rattle.wire_encoding.specs.BigEndian.{bigEndian, bytesOf, part}
 use Rattle.wire_encoding.proofs.Lists.{Bytes}
 use Rattle.path_fields.specs.Fields.{peering}
-use Rattle.path_fields.proofs.Fields.{directionFlipped, direction-twice, peering-flipped}
+use Rattle.path_fields.proofs.Fields.{directionFlipped, peering-flipped}
 use Rattle.path_meta_header.specs.MetaHeader.{infoFieldsCount, hopFieldsCount, pathLength, segmentOf, hopStart}
 use Rattle.path_meta_header.specs.Reversal.{atStart, reversedMeta}
+use Rattle.path_meta_header.specs.Encoding.{wordOf}
 use Rattle.path_meta_header.specs.declared.PathMetaHeader.{PathMetaHeader}
 use Rattle.path_meta_header.proofs.MetaHeader.{same-meta, Lengths, lengths-read}
-use Rattle.path_meta_header.proofs.Reversal.{
-  row-is,
-  length-reversedLengths,
-  row-one,
-  row-two,
-  row-three,
-  RowsOf,
-  rows,
-  rows-back,
-  rows-infos,
-  rows-hops,
-  rows-valid,
-  rows-fit,
-  rows-twice,
-  rows-start,
-  rows-segment,
-}
+use Rattle.path_meta_header.proofs.Reversal.{row-is, length-reversedLengths, row-one, row-two, row-three, RowsOf, rows, rows-back, rows-infos}
+use Rattle.path_meta_header.proofs.Reversal.{rows-hops, rows-valid, rows-fit, rows-twice, rows-start, rows-segment}
 use Rattle.path_meta_header.proofs.Encoding.{Fitting}
 use Rattle.path.specs.Standard.{infoAt}
-use Rattle.path_reverse.specs.Reverse.{reversedPath}
+use Rattle.path_reverse.specs.Reverse.{reversedUnder, reversedPath}
+use Rattle.path_reverse.proofs.Reverse.{length-reversed}
+use Rattle.path_reverse.proofs.Reversed.{bytes-reversed, reversed-word, reversed-hop-field, reversed-info-field}
+use Rattle.path_reverse.proofs.Twice.{fields-twice}
 use Rattle.path_moves.specs.Rules.{somePeering, peeringPath, peeringAllowed}
 use Rattle.path_moves.proofs.Rules.{Known}
-use Rattle.round_trip.specs.Mirror.{reversedMetaAt, mirrorMeta, reversedUnder, mirror}
-use Rattle.round_trip.proofs.Fields.{Spells, same-path}
-use Rattle.round_trip.proofs.Reversed.{length-reversed, reversed-hop-field, reversed-info-field, reversed-word, bytes-reversed}
+use Rattle.round_trip.specs.Mirror.{reversedMetaAt, mirrorMeta, mirror}
+use Rattle.round_trip.proofs.Fields.{Spells, spelt-out}
 
 -- a path that can be moved, exactly its bytes, its reserved bits zero
 pub record Path (x : List ℕ) (m : PathMetaHeader) : Type 0 where
@@ -136,20 +124,20 @@ module _ (x : List ℕ) (m : PathMetaHeader) (path : Path x m) where
   pub mirror-field : (j : ℕ) → j < hopFieldsCount m
       → part (hopStart m j) 12 (mirror m x) ≡ part (hopStart m (hopFieldsCount m - 1 - j)) 12 x
   unfolding mirror
-  mirror-field j l = reversed-hop-field t m x whole j l
+  mirror-field j l = reversed-hop-field m x whole t j l
 
   pub mirror-info : (k : ℕ) → k < infoFieldsCount m
       → infoAt (mirror m x) k ≡ directionFlipped (infoAt x (infoFieldsCount m - 1 - k))
   unfolding mirror
-  mirror-info k l = reversed-info-field t m x whole k l
+  mirror-info k l = reversed-info-field m x whole t k l
 
   mirror-spells : Spells (mirror m x) (mirrorMeta m)
   unfolding mirror mirrorMeta reversedMetaAt
   mirror-spells =
       record {
-        small = bytes-reversed t m x (path .small);
-        exact = length-reversed t m x whole ∙ sym mirror-length;
-        word = reversed-word t m x whole (length-reversedLengths m) mirror-fits;
+        small = bytes-reversed m x t (path .small);
+        exact = length-reversed m x whole t ∙ sym mirror-length;
+        word = reversed-word m x t (length-reversedLengths m) mirror-fits;
       }
 
   -- its peering bits are the path's
@@ -226,54 +214,26 @@ module _ (x : List ℕ) (m : PathMetaHeader) (path : Path x m) where
       same-meta (mirrorMeta t) m (omega (arith, mirror-infos, info-below)) (omega (arith, mirror-hops, hop-below)) (sym (path .clear))
       (row-is t ∙ rows-twice rows-mirror ∙ lengths .these)
 
-module _ (x : List ℕ) (m : PathMetaHeader) (path : Path x m) where
-  twice-field : (j : ℕ) → j < hopFieldsCount m → part (hopStart m j) 12 (mirror (mirrorMeta m) (mirror m x)) ≡ part (hopStart m j) 12 x
-  twice-field j l =
-      let N : ℕ = hopFieldsCount m in
-      let t : PathMetaHeader = mirrorMeta m in
-      let i = mirror-infos x m path in
-      let n = mirror-hops x m path in
-      let back : N - 1 - (N - 1 - j) ≡ j = omega arith in
-      ap (λ (s : ℕ). part (4 + s * 8 + j * 12) 12 (mirror t (mirror m x))) (sym i)
-      ∙ mirror-field (mirror m x) t (path-mirror x m path) j (omega (arith, n))
-      ∙ ap₂ (λ (s c : ℕ). part (4 + s * 8 + (c - 1 - j) * 12) 12 (mirror m x)) i n
-      ∙ mirror-field x m path (N - 1 - j) (omega arith)
-      ∙ ap (λ (h : ℕ). part (hopStart m h) 12 x) back
-
-  twice-info : (k : ℕ) → k < infoFieldsCount m → infoAt (mirror (mirrorMeta m) (mirror m x)) k ≡ infoAt x k
-  twice-info k l =
-      let I : ℕ = infoFieldsCount m in
-      let t : PathMetaHeader = mirrorMeta m in
-      let i = mirror-infos x m path in
-      let back : I - 1 - (I - 1 - k) ≡ k = omega arith in
-      mirror-info (mirror m x) t (path-mirror x m path) k (omega (arith, i))
-      ∙ ap (λ (c : ℕ). directionFlipped (infoAt (mirror m x) (c - 1 - k))) i
-      ∙ ap directionFlipped (mirror-info x m path (I - 1 - k) (omega arith))
-      ∙ direction-twice (infoAt x (I - 1 - (I - 1 - k)))
-      ∙ ap (infoAt x) back
-
   pub mirror-twice : mirror (mirrorMeta m) (mirror m x) ≡ x
+  unfolding mirror
   mirror-twice =
-      let t : PathMetaHeader = mirrorMeta m in
-      let again = path-mirror (mirror m x) t (path-mirror x m path) in
-      same-path (mirror t (mirror m x)) x m (subst (Spells (mirror t (mirror m x))) (meta-twice x m path) (spells again)) (spells path)
-      twice-info twice-field
+      fields-twice m x whole t (mirrorMeta t) t mirror-infos mirror-hops
+      ∙ ap (λ (h : PathMetaHeader). bytesOf 4 (wordOf h) ++ part 4 (pathLength m - 4) x) meta-twice
+      ∙ spelt-out x m (spells path)
 
   -- REVERSED
 
   -- at its last hop field it is reversed into its mirror image
   pub reversedPath-mirror : m .«current_hop_field» + 1 ≡ hopFieldsCount m → reversedPath m x ≡ mirror m x
-  unfolding reversedPath reversedMeta atStart mirror mirrorMeta reversedUnder reversedMetaAt
+  unfolding reversedPath reversedMeta atStart mirror mirrorMeta reversedMetaAt
   reversedPath-mirror last =
-      let N : ℕ = hopFieldsCount m in
-      let I : ℕ = infoFieldsCount m in
       let h : ℕ = m .«current_hop_field» in
-      let t : PathMetaHeader = reversedMetaAt 0 0 m in
-      let opposite = rows-reversed x m path 0 0 in
+      let start : PathMetaHeader = reversedMetaAt 0 0 m in
+      let opposite = rows-reversed 0 0 in
       let hop : 0 ≡ N - 1 - h = omega arith in
       let info : 0 ≡ I - 1 - m .«current_info_field» =
-      sym (rows-start m t I opposite)
-      ∙ ap (segmentOf t) hop
-      ∙ rows-segment m t I opposite h (hop-below x m path)
-      ∙ ap (λ (k : ℕ). I - 1 - k) (hop-named x m path) in
+      sym (rows-start m start I opposite)
+      ∙ ap (segmentOf start) hop
+      ∙ rows-segment m start I opposite h hop-below
+      ∙ ap (λ (k : ℕ). I - 1 - k) hop-named in
       ap₂ (λ (a b : ℕ). reversedUnder (reversedMetaAt a b m) m x) info hop

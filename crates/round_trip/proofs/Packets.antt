@@ -13,18 +13,7 @@ use Rattle.path_meta_header.specs.declared.PathMetaHeader.{PathMetaHeader}
 use Rattle.path_moves.specs.Moves.{atPosition, iterate, moveBytes, moveFrom, moved, movedMeta, positionOf, walked, walkMoves}
 use Rattle.path_moves.proofs.Moves.{moved-is}
 use Rattle.path.specs.Dataplane.{metaHeaderOf}
-use Rattle.round_trip.specs.RoundTrip.{
-  reversedInto,
-  End,
-  first,
-  other,
-  byEnd,
-  hopCount,
-  met,
-  Begun,
-  meets,
-  reply,
-}
+use Rattle.round_trip.specs.RoundTrip.{reversedInto, End, first, other, byEnd, hopCount, met, Begun, meets, reply}
 use Rattle.round_trip.specs.Mirror.{reversedMetaAt, mirrorMeta, mirror}
 use Rattle.round_trip.proofs.Mirror.{Path, hop-below, mirror-infos, mirror-hops, mirror-twice, path-mirror, reversedPath-mirror}
 use Rattle.round_trip.proofs.Moved.{can-move, path-moved}

@@ -10,45 +10,15 @@ use Rattle.path_meta_header.specs.MetaHeader.{infoFieldsCount, hopFieldsCount, 
 use Rattle.path_meta_header.specs.declared.PathMetaHeader.{PathMetaHeader}
 use Rattle.path_moves.specs.Moves.{atPosition, iterate, moved, walked}
 use Rattle.path.specs.Dataplane.{metaHeaderOf}
-use Rattle.round_trip.specs.RoundTrip.{
-  reversedInto,
-  first,
-  other,
-  byEnd,
-  hopCount,
-  Meeting,
-  met,
-  exchanged,
-  Begun,
-  meets,
-  reply,
-}
+use Rattle.round_trip.specs.RoundTrip.{reversedInto, first, other, byEnd, hopCount, Meeting, met, exchanged, Begun, meets, reply}
 use Rattle.round_trip.specs.Mirror.{mirror}
-use Rattle.round_trip.specs.Reply.{
-  MetWalked,
-  ReplyMetWalked,
-  along,
-  against,
-  OppositeOrder,
-  ReplyHopField,
-  ReplyMirror,
-  ReplyReversed,
-}
+use Rattle.round_trip.specs.Reply.{MetWalked, ReplyMetWalked, along, against, OppositeOrder, ReplyHopField, ReplyMirror, ReplyReversed}
 use Rattle.round_trip.proofs.Mirror.{mirror-field}
 use Rattle.round_trip.proofs.Onward.{standingAt, Onward, onward}
 use Rattle.round_trip.proofs.Meetings.{path-header}
 use Rattle.round_trip.proofs.Calls.{path-begun}
-use Rattle.round_trip.proofs.Packets.{
-  track,
-  trackMeta,
-  some-hop,
-  track-path,
-  track-met,
-  track-from-start,
-  track-infos,
-  reversed-back,
-  reply-track,
-}
+use Rattle.round_trip.proofs.Packets.{track, trackMeta, some-hop, track-path, track-met, track-from-start, track-infos, reversed-back}
+use Rattle.round_trip.proofs.Packets.{reply-track}
 
 module _ (b : List ℕ) (g : Begun b) where
   abbrev m : PathMetaHeader

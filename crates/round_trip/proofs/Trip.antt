@@ -1,4 +1,4 @@
--- The trip happens: sent, walked to the last hop field and reversedInto, out and back, each call is accepted, so both ends hold what they
+-- The trip happens: sent, walked to the last hop field and reversed, out and back, each call is accepted, so both ends hold what they
 -- should and each packet was taken with count N − 1.
 -- Assumes nothing.
 use Prim.Native.Nat.{ℕ, _+_, _-_, _<_}
@@ -13,49 +13,14 @@ use Rattle.path_meta_header.specs.MetaHeader.{hopFieldsCount}
 use Rattle.path_meta_header.specs.declared.PathMetaHeader.{PathMetaHeader}
 use Rattle.path_moves.specs.Moves as moves
 use Rattle.path.specs.Dataplane.{metaHeaderOf}
-use Rattle.round_trip.specs.RoundTrip.{
-  reversedInto,
-  End,
-  first,
-  other,
-  Packet,
-  State,
-  begin,
-  byEnd,
-  sending,
-  walk,
-  arrival,
-  onTheWay,
-  onPacket,
-  sent,
-  packetWalked,
-  without,
-  hopCount,
-  pointer,
-  atLast,
-  holding,
-  arrived,
-  step,
-  after,
-  Begun,
-  reply,
-}
+use Rattle.round_trip.specs.RoundTrip.{reversedInto, End, first, other, Packet, State, begin, byEnd, sending, walk, arrival, onTheWay, onPacket}
+use Rattle.round_trip.specs.RoundTrip.{sent, packetWalked, without, hopCount, pointer, atLast, holding, arrived, step, after, Begun, reply}
 use Rattle.round_trip.specs.Reply.{atEnd, TripHappens, TripCounts}
 use Rattle.round_trip.proofs.Mirror.{Path}
 use Rattle.round_trip.proofs.Meetings.{path-header}
 use Rattle.round_trip.proofs.Calls.{walk-accepted, walked-moves, reverse-accepted}
-use Rattle.round_trip.proofs.Packets.{
-  track,
-  trackMeta,
-  some-hop,
-  track-path,
-  track-pointer,
-  track-hops,
-  track-from-start,
-  track-length,
-  reversed-out,
-  reply-track,
-}
+use Rattle.round_trip.proofs.Packets.{track, trackMeta, some-hop, track-path, track-pointer, track-hops, track-from-start, track-length}
+use Rattle.round_trip.proofs.Packets.{reversed-out, reply-track}
 use Rattle.round_trip.proofs.Reply.{reply-reversed}
 
 module _ (b : List ℕ) (g : Begun b) where

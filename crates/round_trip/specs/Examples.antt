@@ -7,23 +7,8 @@ use mathlib.Core.Option.{Option, none, some}
 use lib.ListN.{take, replicate}
 use Rattle.path_fields.specs.declared.Interface.the-variants.{Id}
 use Rattle.path_moves.specs.Moves.{accumulatorBy}
-use Rattle.round_trip.specs.RoundTrip.{
-  first,
-  other,
-  Packet,
-  State,
-  begin,
-  Event,
-  sending,
-  single-move,
-  walk,
-  doubling,
-  arrival,
-  after,
-  Begun,
-  meets,
-  reply,
-}
+use Rattle.round_trip.specs.RoundTrip.{first, other, Packet, State, begin, Event, sending, single-move, walk, doubling, arrival, after, Begun}
+use Rattle.round_trip.specs.RoundTrip.{meets, reply}
 
 -- THE PATHS
 

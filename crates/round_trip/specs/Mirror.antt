@@ -1,13 +1,10 @@
 -- The mirror image of a path: the path reversed, with its pointers at the mirrored position.
-use Prim.Native.Nat.{ℕ, _+_, _-_, _*_}
-use mathlib.Core.List.{List, _++_}
-use lib.ListN.{drop}
-use Rattle.wire_encoding.specs.BigEndian.{bytesOf}
+use Prim.Native.Nat.{ℕ, _-_}
+use mathlib.Core.List.{List}
 use Rattle.path_meta_header.specs.MetaHeader.{infoFieldsCount, hopFieldsCount}
 use Rattle.path_meta_header.specs.Reversal.{reversedLengths}
-use Rattle.path_meta_header.specs.Encoding.{wordOf}
 use Rattle.path_meta_header.specs.declared.PathMetaHeader.{PathMetaHeader}
-use Rattle.path_reverse.specs.Reverse.{reversedRecords, flipped, same}
+use Rattle.path_reverse.specs.Reverse.{reversedUnder}
 
 -- the lengths in opposite order, with these pointers
 unfoldable pub reversedMetaAt : ℕ → ℕ → PathMetaHeader → PathMetaHeader
@@ -22,13 +19,6 @@ reversedMetaAt k h m =
 -- the pointers at the mirrored position
 unfoldable pub mirrorMeta : PathMetaHeader → PathMetaHeader
 mirrorMeta m = reversedMetaAt (infoFieldsCount m - 1 - m .«current_info_field») (hopFieldsCount m - 1 - m .«current_hop_field») m
-
--- the fields of a path that was read under m reversed, after the header h
-unfoldable pub reversedUnder : PathMetaHeader → PathMetaHeader → List ℕ → List ℕ
-reversedUnder h m bytes =
-    bytesOf 4 (wordOf h)
-    ++ (reversedRecords flipped 8 (infoFieldsCount m) (drop 4 bytes)
-    ++ reversedRecords same 12 (hopFieldsCount m) (drop (4 + infoFieldsCount m * 8) bytes))
 
 unfoldable pub mirror : PathMetaHeader → List ℕ → List ℕ
 mirror m bytes = reversedUnder (mirrorMeta m) m bytes

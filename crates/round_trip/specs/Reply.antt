@@ -9,26 +9,8 @@ use Rattle.path_meta_header.specs.MetaHeader.{hopStart}
 use Rattle.path.specs.Dataplane.{metaHeaderOf}
 use Rattle.path_moves.specs.Moves.{walked}
 use Rattle.round_trip.specs.Mirror.{mirror}
-use Rattle.round_trip.specs.RoundTrip.{
-  End,
-  first,
-  other,
-  Packet,
-  begin,
-  Event,
-  sending,
-  walk,
-  arrival,
-  hopCount,
-  after,
-  Meeting,
-  met,
-  byPath,
-  exchanged,
-  Begun,
-  reversedInto,
-  reply,
-}
+use Rattle.round_trip.specs.RoundTrip.{End, first, other, Packet, begin, Event, sending, walk, arrival, hopCount, after, Meeting, met, byPath}
+use Rattle.round_trip.specs.RoundTrip.{exchanged, Begun, reversedInto, reply}
 
 -- WHAT IS MET
 

@@ -3,14 +3,8 @@ use borrow.Author.Needs.{needs}
 use Rattle.path_hop_fields.proofs.hop_fields.Statement.{statement}
 use Rattle.path_hop_fields.proofs.hop_fields.Tie as tie
 
-locate-requires : tie.Need-locate-requires
-locate-requires c κs = search needs
-
-part-of-requires : tie.Need-part-of-requires
-part-of-requires c κs = search needs
-
 returns : tie.Need-returns
 returns c = rw (← c .before .before .locate .ensures) (c .part-of .ensures)
 
 pub hop-fields-spec : {M : Type 1} → statement M
-hop-fields-spec = tie.close (tie.spec locate-requires part-of-requires returns)
+hop-fields-spec = tie.close (tie.spec (λ c κs. search needs) (λ c κs. search needs) returns)

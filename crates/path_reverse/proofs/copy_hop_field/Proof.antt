@@ -10,21 +10,6 @@ use borrow.Author.Needs.{needs}
 use Rattle.path_reverse.proofs.copy_hop_field.Statement.{statement}
 use Rattle.path_reverse.proofs.copy_hop_field.Tie as tie
 
-u64-or-zero-requires : tie.Need-u64-or-zero-requires
-u64-or-zero-requires c κs = search needs
-
-put-u64-requires : tie.Need-put-u64-requires
-put-u64-requires c κs = search needs
-
-u32-or-zero-requires : tie.Need-u32-or-zero-requires
-u32-or-zero-requires c κs = search needs
-
-put-u32-requires : tie.Need-put-u32-requires
-put-u32-requires c κs = search needs
-
-same-length : tie.Need-same-length
-same-length c = search needs
-
 returns : tie.Need-returns
 returns c =
     let second = c .before .before in
@@ -45,9 +30,9 @@ pub copy-hop-field-spec : {M : Type 1} → statement M
 copy-hop-field-spec =
     tie.close
     (tie.spec
-    u64-or-zero-requires
-    put-u64-requires
-    u32-or-zero-requires
-    put-u32-requires
-    same-length
+    (λ c κs. search needs)
+    (λ c κs. search needs)
+    (λ c κs. search needs)
+    (λ c κs. search needs)
+    (λ c. search needs)
     returns)

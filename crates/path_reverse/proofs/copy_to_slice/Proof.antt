@@ -20,26 +20,11 @@ run-length c =
     let a = c .before .before .before .before .before .args in
     length-take-le _ _ (rw (← c .before .before .decode .ensures) at (length-inside (a .bytes .now) (a .path .«path_type»)))
 
-decode-requires : tie.Need-decode-requires
-decode-requires c κs = search needs
-
-enum-known-answer : tie.Need-enum-known-answer
-enum-known-answer c = search needs
-
-not-read-requires : tie.Need-not-read-requires
-not-read-requires c κs = search needs
-
 returns : tie.Need-returns
 unfolding copy
 returns c =
     let told = c .before .before in
     rw (read-refused _ (told .before .before .decode .ensures) (told .answer .given .1)) (c .not-read .ensures, refl)
-
-enum-told : tie.Need-enum-told
-enum-told c = search needs
-
-accepted-requires : tie.Need-accepted-requires
-accepted-requires c κs = search needs
 
 returns-2 : tie.Need-returns-2
 unfolding copy into pathAnswer
@@ -47,9 +32,6 @@ returns-2 c =
     let told = c .before .before .before in
     let read = read-ok _ (told .before .before .decode .ensures) (told .enum-told .given .1) in
     rw (read, eq-eqb _ 0 (c .before .if1 .taken)) (c .accepted .ensures, refl)
-
-refused-requires : tie.Need-refused-requires
-refused-requires c κs = search needs
 
 returns-3 : tie.Need-returns-3
 unfolding copy
@@ -61,18 +43,6 @@ returns-3 c =
     let a = told .before .before .before .before .before .args in
     let run = take (told .before .before .decode .result .length) (a .bytes .now) in
     rw (read, into-other _ (some .if1 .left) _ run (a .dst .now) (λ e. size .if2 .taken (e ∙ run-length told))) (c .refused .ensures, refl)
-
-part-of-requires : tie.Need-part-of-requires
-part-of-requires c κs = search needs
-
-put-slice-requires : tie.Need-put-slice-requires
-put-slice-requires c κs = search needs
-
-accepted-requires-2 : tie.Need-accepted-requires-2
-accepted-requires-2 c κs = search needs
-
-same-length : tie.Need-same-length
-same-length c = search needs
 
 returns-4 : tie.Need-returns-4
 unfolding copy pathAnswer
@@ -91,17 +61,17 @@ pub copy-to-slice-spec : {M : Type 1} → statement M
 copy-to-slice-spec =
     tie.close
     (tie.spec
-    decode-requires
-    enum-known-answer
-    not-read-requires
+    (λ c κs. search needs)
+    (λ c. search needs)
+    (λ c κs. search needs)
     returns
-    enum-told
-    accepted-requires
+    (λ c. search needs)
+    (λ c κs. search needs)
     returns-2
-    refused-requires
+    (λ c κs. search needs)
     returns-3
-    part-of-requires
-    put-slice-requires
-    accepted-requires-2
-    same-length
+    (λ c κs. search needs)
+    (λ c κs. search needs)
+    (λ c κs. search needs)
+    (λ c. search needs)
     returns-4)

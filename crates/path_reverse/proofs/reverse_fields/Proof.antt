@@ -7,36 +7,18 @@ use borrow.Author.Needs.{needs}
 use Rattle.path_reverse.proofs.reverse_fields.Statement.{statement}
 use Rattle.path_reverse.proofs.reverse_fields.Tie as tie
 
-info-fields-count-requires : tie.Need-info-fields-count-requires
-info-fields-count-requires c κs = search needs
-
-hop-fields-count-requires : tie.Need-hop-fields-count-requires
-hop-fields-count-requires c κs = search needs
-
-to-reversed-requires : tie.Need-to-reversed-requires
-to-reversed-requires c κs = search needs
-
 word-of-requires : tie.Need-word-of-requires
 word-of-requires c κs =
     let reversed = c .before in
     ap metaFits (reversed .to-reversed .ensures) ∙ reversed .before .before .before .before .before .pre .fits
 
-put-u32-requires : tie.Need-put-u32-requires
-put-u32-requires c κs = search needs
-
 reverse-info-fields-requires : tie.Need-reverse-info-fields-requires
 unfolding pathLength
 reverse-info-fields-requires c κs = search needs
 
-hop-fields-start-requires : tie.Need-hop-fields-start-requires
-hop-fields-start-requires c κs = search needs
-
 reverse-hop-fields-requires : tie.Need-reverse-hop-fields-requires
 unfolding pathLength
 reverse-hop-fields-requires c κs = search needs
-
-same-length : tie.Need-same-length
-same-length c = search needs
 
 returns : tie.Need-returns
 returns c =
@@ -47,23 +29,26 @@ returns c =
     let reversed = put .before .before .before in
     let count = reversed .before .before in
     let start = count .before .before .before in
-    let word = put .before .word-of .ensures ∙ ap wordOf (reversed .to-reversed .ensures) in
     all-written (start .args .meta-header) (start .args .bytes .now) (start .args .dst .now) (start .pre)
-    (rw word at (put .put-u32 .ensures .1))
-    (rw (count .info-fields-count .ensures .0) at (infos .reverse-info-fields .ensures))
-    (simp (from .hop-fields-start .ensures .0, reversed .before .hop-fields-count .ensures .0) at (hops .reverse-hop-fields .ensures))
+    (put .before .word-of .ensures ∙ ap wordOf (reversed .to-reversed .ensures))
+    (count .info-fields-count .ensures .0)
+    (reversed .before .hop-fields-count .ensures .0)
+    (from .hop-fields-start .ensures .0)
+    (put .put-u32 .ensures .1)
+    (infos .reverse-info-fields .ensures)
+    (hops .reverse-hop-fields .ensures)
 
 pub reverse-fields-spec : {M : Type 1} → statement M
 reverse-fields-spec =
     tie.close
     (tie.spec
-    info-fields-count-requires
-    hop-fields-count-requires
-    to-reversed-requires
+    (λ c κs. search needs)
+    (λ c κs. search needs)
+    (λ c κs. search needs)
     word-of-requires
-    put-u32-requires
+    (λ c κs. search needs)
     reverse-info-fields-requires
-    hop-fields-start-requires
+    (λ c κs. search needs)
     reverse-hop-fields-requires
-    same-length
+    (λ c. search needs)
     returns)

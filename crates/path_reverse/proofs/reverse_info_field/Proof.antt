@@ -6,21 +6,6 @@ use borrow.Author.Needs.{needs}
 use Rattle.path_reverse.proofs.reverse_info_field.Statement.{statement}
 use Rattle.path_reverse.proofs.reverse_info_field.Tie as tie
 
-u64-or-zero-requires : tie.Need-u64-or-zero-requires
-u64-or-zero-requires c κs = search needs
-
-put-u64-requires : tie.Need-put-u64-requires
-put-u64-requires c κs = search needs
-
-shared-slice-read-dst : tie.Need-shared-slice-read-dst
-shared-slice-read-dst c = search needs
-
-slice-write-dst : tie.Need-slice-write-dst
-slice-write-dst c = search needs
-
-same-length : tie.Need-same-length
-same-length c = search needs
-
 returns : tie.Need-returns
 returns c =
     let put = c .before .before .before in
@@ -33,9 +18,9 @@ pub reverse-info-field-spec : {M : Type 1} → statement M
 reverse-info-field-spec =
     tie.close
     (tie.spec
-    u64-or-zero-requires
-    put-u64-requires
-    shared-slice-read-dst
-    slice-write-dst
-    same-length
+    (λ c κs. search needs)
+    (λ c κs. search needs)
+    (λ c. search needs)
+    (λ c. search needs)
+    (λ c. search needs)
     returns)

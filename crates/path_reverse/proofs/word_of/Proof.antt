@@ -7,15 +7,6 @@ use borrow.Author.Needs.{needs}
 use Rattle.path_reverse.proofs.word_of.Statement.{statement}
 use Rattle.path_reverse.proofs.word_of.Tie as tie
 
-as-u32-requires : tie.Need-as-u32-requires
-as-u32-requires c κs = search needs
-
-enum-known-word : tie.Need-enum-known-word
-enum-known-word c = search needs
-
-enum-told : tie.Need-enum-told
-enum-told c = search needs
-
 returns : tie.Need-returns
 returns c = word-is _ (rw (c .before .word .given .1) at (c .before .before .before .as-u32 .ensures)) .1
 
@@ -26,4 +17,4 @@ returns-2 c =
     cc (c .before .before .before .pre)
 
 pub word-of-spec : {M : Type 1} → statement M
-word-of-spec = tie.close (tie.spec as-u32-requires enum-known-word enum-told returns returns-2)
+word-of-spec = tie.close (tie.spec (λ c κs. search needs) (λ c. search needs) (λ c. search needs) returns returns-2)

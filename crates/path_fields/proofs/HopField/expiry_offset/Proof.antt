@@ -4,12 +4,9 @@ use Rattle.path_fields.specs.Fields.{expiryTime}
 use Rattle.path_fields.proofs.HopField.expiry_offset.Statement.{statement}
 use Rattle.path_fields.proofs.HopField.expiry_offset.Tie as tie
 
-expiry-requires : tie.Need-expiry-requires
-expiry-requires c κs = search needs
-
 returns : tie.Need-returns
 unfolding expiryTime
 returns c = search needs
 
 pub expiry-offset-spec : {M : Type 1} → statement M
-expiry-offset-spec = tie.close (tie.spec expiry-requires returns)
+expiry-offset-spec = tie.close (tie.spec (λ c κs. search needs) returns)

@@ -3,14 +3,8 @@ use borrow.Author.Needs.{needs}
 use Rattle.path_fields.proofs.HopField.set_cons_ingress_router_alert.Statement.{statement}
 use Rattle.path_fields.proofs.HopField.set_cons_ingress_router_alert.Tie as tie
 
-with-bit-1-requires : tie.Need-with-bit-1-requires
-with-bit-1-requires c κs = search needs
-
-with-flags-requires : tie.Need-with-flags-requires
-with-flags-requires c κs = search needs
-
 returns : tie.Need-returns
 returns c = rw (← c .before .with-bit-1 .ensures) (c .with-flags .ensures)
 
 pub set-cons-ingress-router-alert-spec : {M : Type 1} → statement M
-set-cons-ingress-router-alert-spec = tie.close (tie.spec with-bit-1-requires with-flags-requires returns)
+set-cons-ingress-router-alert-spec = tie.close (tie.spec (λ c κs. search needs) (λ c κs. search needs) returns)

@@ -3,14 +3,8 @@ use borrow.Author.Needs.{needs}
 use Rattle.path_fields.proofs.InfoField.at.Statement.{statement}
 use Rattle.path_fields.proofs.InfoField.at.Tie as tie
 
-part-of-requires : tie.Need-part-of-requires
-part-of-requires c κs = search needs
-
-new-requires : tie.Need-new-requires
-new-requires c κs = search needs
-
 returns : tie.Need-returns
 returns c = rw (c .before .new .ensures, c .before .before .part-of .ensures)
 
 pub at-spec : {M : Type 1} → statement M
-at-spec = tie.close (tie.spec part-of-requires new-requires returns)
+at-spec = tie.close (tie.spec (λ c κs. search needs) (λ c κs. search needs) returns)

@@ -1,23 +1,13 @@
 -- `InfoField::new` meets its contract: each field is read at its offset of the part.
+use mathlib.Core.Path.{refl}
 use native.Mathlib.Omega.{arith}
+use lib.ListN.{length}
 use borrow.Author.Needs.{needs}
 use borrow.Author.Tests.{eq-eqb, ne-eqb}
-use Rattle.wire_encoding.proofs.BigEndian.{or-zero-is}
 use Rattle.path_fields.specs.Fields.{newInfoField, infoFieldAt, zeroInfoField}
+use Rattle.path_fields.proofs.Fields.{read-there}
 use Rattle.path_fields.proofs.InfoField.new.Statement.{statement}
 use Rattle.path_fields.proofs.InfoField.new.Tie as tie
-
-shared-slice-read-t6 : tie.Need-shared-slice-read-t6
-shared-slice-read-t6 c = search needs
-
-shared-slice-read-t8 : tie.Need-shared-slice-read-t8
-shared-slice-read-t8 c = search needs
-
-u16-or-zero-requires : tie.Need-u16-or-zero-requires
-u16-or-zero-requires c κs = search needs
-
-u32-or-zero-requires : tie.Need-u32-or-zero-requires
-u32-or-zero-requires c κs = search needs
 
 returns : tie.Need-returns
 unfolding newInfoField infoFieldAt
@@ -25,24 +15,14 @@ returns c =
     let s = c .before .before .before .before in
     let part = s .before .before .args .part .now in
     rw (
-      eq-eqb _ _ (s .if1 .taken),
-      c .before .u16-or-zero .ensures,
-      or-zero-is 2 part 2 (omega arith),
-      c .u32-or-zero .ensures,
-      or-zero-is 4 part 4 (omega arith),
-    )
+      eq-eqb (length part) 8 (s .if1 .taken),
+      read-there 2 part 2 (c .before .u16-or-zero .ensures) (omega arith),
+      read-there 4 part 4 (c .u32-or-zero .ensures) (omega arith),
+    ) refl
 
 returns-2 : tie.Need-returns-2
 unfolding newInfoField zeroInfoField
 returns-2 c = rw (ne-eqb _ _ (c .if1 .left))
 
 pub new-spec : {M : Type 1} → statement M
-new-spec =
-    tie.close
-    (tie.spec
-    shared-slice-read-t6
-    shared-slice-read-t8
-    u16-or-zero-requires
-    u32-or-zero-requires
-    returns
-    returns-2)
+new-spec = tie.close (tie.spec (λ c. search needs) (λ c. search needs) (λ c κs. search needs) (λ c κs. search needs) returns returns-2)

@@ -4,12 +4,9 @@ use Rattle.path_fields.specs.Fields.{withConstructedDir}
 use Rattle.path_fields.proofs.InfoField.set_constructed_dir.Statement.{statement}
 use Rattle.path_fields.proofs.InfoField.set_constructed_dir.Tie as tie
 
-with-bit-0-requires : tie.Need-with-bit-0-requires
-with-bit-0-requires c κs = search needs
-
 returns : tie.Need-returns
 unfolding withConstructedDir
 returns c = rw (c .with-bit-0 .ensures)
 
 pub set-constructed-dir-spec : {M : Type 1} → statement M
-set-constructed-dir-spec = tie.close (tie.spec with-bit-0-requires returns)
+set-constructed-dir-spec = tie.close (tie.spec (λ c κs. search needs) returns)

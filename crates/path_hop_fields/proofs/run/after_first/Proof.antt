@@ -4,31 +4,11 @@ use borrow.Author.Needs.{needs}
 use Rattle.path_hop_fields.proofs.run.after_first.Statement.{statement}
 use Rattle.path_hop_fields.proofs.run.after_first.Tie as tie
 
-slice-aggregate-result : tie.Need-slice-aggregate-result
-slice-aggregate-result c = search needs
-
 returns : tie.Need-returns
 returns c = nothing-after (c .before .before .args .run .now) (c .before .if1 .taken)
-
-sub-result : tie.Need-sub-result
-sub-result c = search needs
-
-part-result-start : tie.Need-part-result-start
-part-result-start c = search needs
-
-part-result-end : tie.Need-part-result-end
-part-result-end c = search needs
 
 returns-2 : tie.Need-returns-2
 returns-2 c = to-the-end 12 (c .before .before .args .run .now)
 
 pub after-first-spec : {M : Type 1} → statement M
-after-first-spec =
-    tie.close
-    (tie.spec
-    slice-aggregate-result
-    returns
-    sub-result
-    part-result-start
-    part-result-end
-    returns-2)
+after-first-spec = tie.close (tie.spec (λ c. search needs) returns (λ c. search needs) (λ c. search needs) (λ c. search needs) returns-2)

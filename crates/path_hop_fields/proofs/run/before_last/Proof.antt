@@ -7,22 +7,11 @@ use borrow.Author.Needs.{needs}
 use Rattle.path_hop_fields.proofs.run.before_last.Statement.{statement}
 use Rattle.path_hop_fields.proofs.run.before_last.Tie as tie
 
-slice-aggregate-result : tie.Need-slice-aggregate-result
-slice-aggregate-result c = search needs
-
 returns : tie.Need-returns
 returns c = nothing-before (c .before .before .args .run .now) (c .before .if1 .taken)
-
-sub-result : tie.Need-sub-result
-sub-result c = search needs
 
 slice-aggregate-result-2 : tie.Need-slice-aggregate-result-2
 slice-aggregate-result-2 c = sym (length-take-le _ (c .before .before .args .run .now) (omega arith))
 
-returns-2 : tie.Need-returns-2
-returns-2 c = search needs
-
 pub before-last-spec : {M : Type 1} → statement M
-before-last-spec =
-    tie.close
-    (tie.spec slice-aggregate-result returns sub-result slice-aggregate-result-2 returns-2)
+before-last-spec = tie.close (tie.spec (λ c. search needs) returns (λ c. search needs) slice-aggregate-result-2 (λ c. search needs))

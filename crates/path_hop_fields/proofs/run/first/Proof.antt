@@ -7,9 +7,6 @@ use borrow.Author.Needs.{needs}
 use Rattle.path_hop_fields.proofs.run.first.Statement.{statement}
 use Rattle.path_hop_fields.proofs.run.first.Tie as tie
 
-slice-aggregate-result : tie.Need-slice-aggregate-result
-slice-aggregate-result c = search needs
-
 returns : tie.Need-returns
 unfolding spec.first
 returns c = rw (lt-ltb _ _ (c .before .if1 .taken))
@@ -22,4 +19,4 @@ unfolding spec.first
 returns-2 c = rw (le-ltb _ _ (c .before .if1 .left))
 
 pub first-spec : {M : Type 1} → statement M
-first-spec = tie.close (tie.spec slice-aggregate-result returns slice-aggregate-result-2 returns-2)
+first-spec = tie.close (tie.spec (λ c. search needs) returns slice-aggregate-result-2 returns-2)

@@ -6,37 +6,13 @@ use borrow.Author.Needs.{needs}
 use Rattle.path_hop_fields.proofs.run.last.Statement.{statement}
 use Rattle.path_hop_fields.proofs.run.last.Tie as tie
 
-slice-aggregate-result : tie.Need-slice-aggregate-result
-slice-aggregate-result c = search needs
-
 returns : tie.Need-returns
 unfolding spec.last
 returns c = rw (lt-ltb _ _ (c .before .if1 .taken))
-
-sub-result : tie.Need-sub-result
-sub-result c = search needs
-
-sub-result-2 : tie.Need-sub-result-2
-sub-result-2 c = search needs
-
-part-result-start : tie.Need-part-result-start
-part-result-start c = search needs
-
-part-result-end : tie.Need-part-result-end
-part-result-end c = search needs
 
 returns-2 : tie.Need-returns-2
 unfolding spec.last
 returns-2 c = rw (le-ltb _ _ (c .before .if1 .left), to-the-end _ (c .before .before .args .run .now))
 
 pub last-spec : {M : Type 1} → statement M
-last-spec =
-    tie.close
-    (tie.spec
-    slice-aggregate-result
-    returns
-    sub-result
-    sub-result-2
-    part-result-start
-    part-result-end
-    returns-2)
+last-spec = tie.close (tie.spec (λ c. search needs) returns (λ c. search needs) (λ c. search needs) (λ c. search needs) (λ c. search needs) returns-2)

@@ -9,12 +9,9 @@ returns : tie.Need-returns
 unfolding spec.whole spec.runOf
 returns c = rw (eq-eqb _ _ (c .if1 .taken))
 
-slice-aggregate-result : tie.Need-slice-aggregate-result
-slice-aggregate-result c = search needs
-
 returns-2 : tie.Need-returns-2
 unfolding spec.whole spec.runOf
 returns-2 c = rw (ne-eqb _ _ (c .before .if1 .left))
 
 pub whole-spec : {M : Type 1} → statement M
-whole-spec = tie.close (tie.spec returns slice-aggregate-result returns-2)
+whole-spec = tie.close (tie.spec returns (λ c. search needs) returns-2)

@@ -1,4 +1,5 @@
 -- `HostType::from_byte` meets its contract: the tests that led to each answer.
+use mathlib.Core.Path.{refl}
 use borrow.Author.Tests.{eq-eqb, ne-eqb}
 use Rattle.address.specs.Host.{hostTypeOf}
 use Rattle.address.proofs.host.HostType.from_byte.Statement.{statement}
@@ -6,15 +7,15 @@ use Rattle.address.proofs.host.HostType.from_byte.Tie as tie
 
 returns : tie.Need-returns
 unfolding hostTypeOf
-returns c = rw (eq-eqb _ _ (c .if1 .taken))
+returns c = rw (eq-eqb _ _ (c .if1 .taken)) refl
 
 returns-2 : tie.Need-returns-2
 unfolding hostTypeOf
-returns-2 c = rw (ne-eqb _ _ (c .before .if1 .left), eq-eqb _ _ (c .if2 .taken))
+returns-2 c = rw (ne-eqb _ _ (c .before .if1 .left), eq-eqb _ _ (c .if2 .taken)) refl
 
 returns-3 : tie.Need-returns-3
 unfolding hostTypeOf
-returns-3 c = rw (ne-eqb _ _ (c .before .before .if1 .left), ne-eqb _ _ (c .before .if2 .left), eq-eqb _ _ (c .if3 .taken))
+returns-3 c = rw (ne-eqb _ _ (c .before .before .if1 .left), ne-eqb _ _ (c .before .if2 .left), eq-eqb _ _ (c .if3 .taken)) refl
 
 returns-4 : tie.Need-returns-4
 unfolding hostTypeOf
@@ -24,7 +25,7 @@ returns-4 c =
       ne-eqb _ _ (c .before .before .if2 .left),
       ne-eqb _ _ (c .before .if3 .left),
       eq-eqb _ _ (c .if4 .taken),
-    )
+    ) refl
 
 returns-5 : tie.Need-returns-5
 unfolding hostTypeOf
@@ -34,7 +35,7 @@ returns-5 c =
       ne-eqb _ _ (c .before .before .if2 .left),
       ne-eqb _ _ (c .before .if3 .left),
       ne-eqb _ _ (c .if4 .left),
-    )
+    ) refl
 
 pub from-byte-spec : {M : Type 1} → statement M
 from-byte-spec = tie.close (tie.spec returns returns-2 returns-3 returns-4 returns-5)

@@ -6,12 +6,6 @@ use borrow.Author.Needs.{needs}
 use Rattle.address.proofs.ia.IsdAsn.new.Statement.{statement}
 use Rattle.address.proofs.ia.IsdAsn.new.Tie as tie
 
-mul-t5 : tie.Need-mul-t5
-mul-t5 c = search needs
-
-add-t6 : tie.Need-add-t6
-add-t6 c = search needs
-
 returns : tie.Need-returns
 unfolding joined
 returns c = simp (lt-ltb (c .before .args .asn) (2 ^ 48) (c .if1 .taken))
@@ -21,4 +15,4 @@ unfolding joined
 returns-2 c = simp (le-ltb (c .before .args .asn) (2 ^ 48) (c .if1 .left))
 
 pub new-spec : {M : Type 1} → statement M
-new-spec = tie.close (tie.spec mul-t5 add-t6 returns returns-2)
+new-spec = tie.close (tie.spec (λ c. search needs) (λ c. search needs) returns returns-2)

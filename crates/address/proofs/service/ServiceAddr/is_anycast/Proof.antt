@@ -5,11 +5,8 @@ use borrow.Author.Needs.{needs}
 use Rattle.address.proofs.service.ServiceAddr.is_anycast.Statement.{statement}
 use Rattle.address.proofs.service.ServiceAddr.is_anycast.Tie as tie
 
-is-multicast-requires : tie.Need-is-multicast-requires
-is-multicast-requires c κs = search needs
-
 returns : tie.Need-returns
 returns c = ap not (c .is-multicast .ensures)
 
 pub is-anycast-spec : {M : Type 1} → statement M
-is-anycast-spec = tie.close (tie.spec is-multicast-requires returns)
+is-anycast-spec = tie.close (tie.spec (λ c κs. search needs) returns)

@@ -17,64 +17,11 @@ use ghost.Atoms.{Atoms, sem}
 use contract.Lifetimes.{AllOutlive}
 use contract.Monad.{Fun, fact}
 use contract.Running.{givenOf, tables, tablesOf}
-use types.Kit.{
-  Given,
-  ‵,
-  raw,
-  _⊛_,
-  given,
-  ⋆,
-  some,
-  later,
-  _$_,
-  _∵_,
-  !,
-  qed,
-  by,
-  move,
-  keep,
-  drop,
-  use1,
-  use2,
-  split,
-  join,
-  learn,
-  pick,
-  fsplit,
-  fsplit3,
-  fjoin,
-  fjoin3,
-  feqI,
-  suffices,
-  frame,
-  await,
-  done,
-}
+use types.Kit.{Given, ‵, raw, _⊛_, given, ⋆, some, later, _$_, _∵_, !, qed, by, move, keep, drop, use1, use2, split, join, learn, pick, fsplit}
+use types.Kit.{fsplit3, fjoin, fjoin3, feqI, suffices, frame, await, done}
 use types.Part.{whole, sub, look-in}
-use types.Run.{
-  look,
-  init,
-  forget,
-  stop,
-  hop,
-  fld,
-  from,
-  load,
-  of-opd,
-  and-then,
-  no-more,
-  assigns,
-  land,
-  returns,
-  enter,
-  alloc1,
-  alloc0,
-  params1,
-  pass1,
-  pass0,
-  free1,
-  free0,
-}
+use types.Run.{look, init, forget, stop, hop, fld, from, load, of-opd, and-then, no-more, assigns, land, returns, enter, alloc1, alloc0, params1}
+use types.Run.{pass1, pass0, free1, free0}
 use sound.WpLaws.{FmC, fmOf, WpFn-mono}
 use denote.RattleType.{owns}
 use denote.Laws.{Is, shows}
@@ -82,7 +29,7 @@ use denote.Memory.{partAt, cellAt}
 use denote.Plain.{uint-lawful}
 use denote.Builtin.{usize}
 use denote.Ref.{RefT, ShrRef, ptr-vals, shr-tells, now}
-use denote.Signature.{Slot, plain, namedLft}
+use denote.Signature.{namedLft}
 use denote.Steps.{looks, shuts, peeks, heard, nothing}
 use denote.Struct.Laws as LL
 use denote.Struct.Rest.{all-own, own-open}
@@ -97,7 +44,7 @@ use denote.Exit.{yes}
 use denote.Triple.Clauses.{ensured, lasts}
 use Rattle.path_hop_fields.specs.Run as spec
 use Rattle.path_hop_fields.specs.declared.view.HopFields.{HopFields}
-use Rattle.path_hop_fields.proofs.Held.{α, Struct, Slice, machine, fits, token}
+use Rattle.path_hop_fields.proofs.Held.{behind, α, Struct, machine, fits, Own, token, asks}
 use Rattle.path_hop_fields.proofs.view.HopFields as T
 use Rattle.path_hop_fields.proofs.view.HopFields.Laws as T′
 use Rattle.path_hop_fields.proofs.run.count as count
@@ -108,10 +55,6 @@ use Rattle.path_hop_fields.proofs.view.HopFields.len.Key.{name as #own}
 use Rattle.path_hop_fields.proofs.view.HopFields.len as len
 use Rattle.path_hop_fields.proofs.view.HopFields.len.Statement as stated
 use Rattle.path_hop_fields.proofs.view.HopFields.len.Code as code
-
--- `HopFields<'a>`, as the referent's place in the signature
-abbrev behind : Slot 2
-behind = plain (λ κs. T.the-row (namedLft 2 1 tt κs))
 
 abbrev stayed : Stays (len.ended .signature .params) (len.ended .kept)
 stayed = (stay-none-ref (0 ∷ []) tt behind yes, tt)
@@ -139,13 +82,12 @@ module _ {M : Type 1} (𝓤 : URA M) (H : Heap 𝓤) (A : Atoms 𝓤) (W : Given
   abbrev Post : Val → SProp 𝓤
   Post = walkOf 𝓤 H A len.ended stayed (len.clauses 𝓤 H A mem run) .post (((κ, (κ′, tt)), (q, (q′, tt)), bounds, x, at), tt)
 
-  -- the call: what is passed, what it asks, and what is known of its result
+  -- the call: what is passed, what it asks (what a call asks that returns a part), and what is known of its result
   abbrev to : Count 𝓤 H A mem run .Ghost
   to = (((κ′, tt), (q′, tt), tt, (h .run, tt), (machine (h .run) ∷ [], tt)), tt)
 
-  goes : ent 𝓤 (⋆ 𝓤 H A (‵ (Slice κ′ .own (h .run) (machine (h .run) ∷ [])) ∷ token 𝓤 κ′ q′ ∷ [])) (Count 𝓤 H A mem run .pre to)
-  goes = qed W (‵ (Slice κ′ .own (h .run) (machine (h .run) ∷ [])) ∷ token 𝓤 κ′ q′ ∷ []) ∵ nothing ! $ move ! (1 ∷ 0 ∷ []) $ fjoin !
-      $ move ! (1 ∷ 0 ∷ []) $ join ! $ frame ! $ done !
+  goes : ent 𝓤 (⋆ 𝓤 H A (‵ (Own κ′ (h .run)) ∷ token 𝓤 κ′ q′ ∷ [])) (Count 𝓤 H A mem run .pre to)
+  goes = asks 𝓤 H A W spec.whole κ′ q′ (h .run)
 
   said : (r : ℕ) → ent 𝓤 (ensured 𝓤 H A count.ended (count.clauses 𝓤 H A mem run) (κ′, tt) (h .run, tt) tt r) (fact 𝓤 (r ≡ found))
   said r = exE 𝓤 _ (λ ws. snd∗ 𝓤 (sem 𝓤 H A (lasts count.ended (κ′, tt) (h .run, tt) ws)) (fact 𝓤 (r ≡ found)))
