@@ -1,6 +1,6 @@
 -- The path that is read of p ++ t is the one that is read of p, and every byte that a call looks at lies in p.
 -- Assumes nothing.
-use Prim.Native.Nat.{ℕ, zero, suc, _+_, _*_, _-_, _≤_, _<_}
+use Prim.Native.Nat.{ℕ, _+_, _*_, _-_, _≤_, _<_}
 use mathlib.Core.Path.{_≡_, refl, sym, ap, ap₂, _∙_}
 use mathlib.Core.Bool.{Bool, true, false}
 use mathlib.Core.List.{List, _++_, flatMap, reverse as reversed}
@@ -10,29 +10,28 @@ use lib.ListN.{length, take, drop, getD, set, length-append, length-drop, List·
 use lib.Seq.{take-append-le, drop-append-le}
 use borrow.Author.Tests.{ltb-true}
 use Rattle.wire_encoding.specs.Result.{Result, ok, refused, require, andThen, mapped}
-use Rattle.wire_encoding.specs.BigEndian.{part, records, bytesOf}
+use Rattle.wire_encoding.specs.BigEndian.{part, records}
 use Rattle.wire_encoding.specs.Bits.{withBit}
 use Rattle.wire_encoding.proofs.Lists.{part-left, set-left}
 use Rattle.wire_encoding.proofs.BigEndian.{number-left, records-left}
 use Rattle.errors.specs.declared.path_error.PathError.{PathError}
 use Rattle.errors.specs.declared.path_error.PathError.the-variants.{NoSuchField}
-use Rattle.path_fields.specs.Fields.{expiryTime, ingressInterface, egressInterface}
+use Rattle.path_fields.specs.Fields.{expiryTime}
 use Rattle.path_fields.proofs.Fields.{info-left, hop-left}
-use Rattle.path_meta_header.specs.MetaHeader.{
-  metaOf, infoFieldsCount, hopFieldsCount, segmentOf, segmentLength, firstHopField, infoStart, hopStart, pathLength, hopFieldOffset, hopFieldOf}
+use Rattle.path_meta_header.specs.MetaHeader.{metaOf, infoFieldsCount, hopFieldsCount, segmentOf, segmentLength, firstHopField, infoStart, hopStart}
+use Rattle.path_meta_header.specs.MetaHeader.{pathLength, hopFieldOffset, hopFieldOf}
 use Rattle.path_meta_header.specs.declared.PathMetaHeader.{PathMetaHeader}
-use Rattle.path.specs.declared.standard.Part.{Part}
-use Rattle.path.specs.Standard.{readPath, infoAt, hopAt}
-use Rattle.path.specs.Dataplane.{readDataplane, standard, infoFieldIn, hopFieldIn, segmentIn, alerted, Among, partIn}
+use Rattle.path.specs.Standard.{infoAt, hopAt}
+use Rattle.path.specs.Dataplane.{readDataplane, standard, infoFieldIn, hopFieldIn, segmentIn, alerted}
 use Rattle.path.proofs.Reading.{Readable, path-read, standard-read}
 use Rattle.path.proofs.Segment.{inside}
 use Rattle.path_hop_fields.specs.PathRuns.{hopFieldsIn}
-use Rattle.path_expiry.specs.Expiry.{least, hopExpiry, segmentExpiry, pathExpiry, segmentExpiryIn, expiryIn, timeLeftIn}
+use Rattle.path_expiry.specs.Expiry.{hopExpiry, segmentExpiry, pathExpiry, segmentExpiryIn, expiryIn, timeLeftIn}
 use Rattle.path_expiry.proofs.ExpiryLaws.{least-same}
 use Rattle.path_interfaces.specs.Interfaces.{Place, interfaceAt, interfacesIn, interfaceIn}
 use Rattle.path_interfaces.proofs.Interfaces.{interface-there}
-use Rattle.path_reverse.specs.Copy.{copy, into}
-use Rattle.path_reverse.specs.Reverse.{reversedRecords, flipped, same, reversedPath, reversedBytes, reverse}
+use Rattle.path_reverse.specs.Copy.{copy}
+use Rattle.path_reverse.specs.Reverse.{reversedRecords, flipped, same, reversedUnder, reversedPath, reversedBytes, reverse}
 use Rattle.bytes_after_path.specs.BytesAfterPath.{writtenBefore, ReadAlike, WrittenAlike}
 
 module _ (p t : List ℕ) (m : PathMetaHeader) (r : Readable p m) where
@@ -124,7 +123,7 @@ module _ (p t : List ℕ) (m : PathMetaHeader) (r : Readable p m) where
       (ap (records k n) (drop-append-le from p t (omega arith)) ∙ records-left k n (drop from p) t (simp length-drop (omega arith)))
 
   reversed-same : reversedPath m (p ++ t) ≡ reversedPath m p
-  unfolding reversedPath
+  unfolding reversedPath reversedUnder
   reversed-same =
       rw (
         records-same flipped 8 (infoFieldsCount m) (infoStart 0) (omega (arith, whole)),

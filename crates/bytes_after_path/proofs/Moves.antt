@@ -1,13 +1,13 @@
 -- A move of p ++ t writes the bytes in p that the move of p writes; so does a walk, move by move, for each leaves a path that can be moved.
 -- Assumes nothing.
 use Prim.Native.Nat.{ℕ, zero, suc, _+_, _*_, _≤_, _<_}
-use mathlib.Core.Path.{_≡_, refl, sym, ap, ap₂, _∙_}
+use mathlib.Core.Path.{_≡_, refl, ap, ap₂, _∙_}
 use mathlib.Core.Bool.{Bool, true, false, not, cond, _&&_, _||_}
 use mathlib.Core.List.{List, _++_}
 use native.Mathlib.Omega.{arith}
 use lib.Bits.{bitXor}
 use lib.Dec.{eqb}
-use lib.ListN.{length, set, length-set}
+use lib.ListN.{set, length-set}
 use lib.Seq.{sets}
 use borrow.Author.Tests.{eqb-true, eqb-false}
 use Rattle.wire_encoding.specs.Result.{Result, ok, refused, mapped, andThen, orElse, require}
@@ -23,12 +23,11 @@ use Rattle.path.specs.Standard.{infoAt}
 use Rattle.path.specs.Dataplane.{standard}
 use Rattle.path.proofs.Reading.{Readable, standard-read}
 use Rattle.path_moves.specs.Rules.{ownerOf, somePeering, peeringPath, peeringAllowed, movable}
-use Rattle.path_moves.specs.Moves.{
-  CanMove, Way, codeOf, takesIn, moveBytes, isLast, move, moved, movedMeta, iterate, walkMoves, walk, walked, walkAnswer}
+use Rattle.path_moves.specs.Moves.{CanMove, Way, codeOf, takesIn, moveBytes, isLast, move, moved, movedMeta, iterate, walkMoves, walk, walked}
+use Rattle.path_moves.specs.Moves.{walkAnswer}
 use Rattle.path_moves.proofs.Rules.{known, owner-below}
 use Rattle.path_moves.proofs.Moves.{Standing, can-move, standing, moved-known}
-use Rattle.path_moves.proofs.Sums.{After, after}
-use Rattle.path_moves.proofs.Walks.{begin}
+use Rattle.path_moves.proofs.Sums.{after}
 use Rattle.bytes_after_path.specs.BytesAfterPath.{wayBefore, ChangedAlike}
 use Rattle.bytes_after_path.proofs.Calls.{readable-after, standard-after, info-after, alert-after}
 

@@ -27,27 +27,9 @@ use Rattle.packet_address_header.specs.declared.HostAddress.{HostAddress
 use Rattle.packet_address_header.specs.declared.AddressHeader.{AddressHeader}
 use Rattle.packet_address_header.specs.declared.WireHost.{WireHost}
 use Rattle.packet_address_header.specs.declared.WireAddress.{WireAddress}
-use Rattle.packet_address_header.specs.AddressHeader.{
-  kindOf,
-  hostOfKind,
-  padded,
-  hostAt,
-  lengthOfKinds,
-  addressLength,
-  addressAt,
-  readAddress,
-  hostBytesOf,
-  hostBytes,
-  addressBytes,
-  writeAddress,
-  serviceBytes,
-  rawOf,
-  hostOnWire,
-  onWire,
-  wireLength,
-  wireHostBytes,
-  wireBytes,
-}
+use Rattle.packet_address_header.specs.AddressHeader.{kindOf, hostOfKind, padded, hostAt, lengthOfKinds, addressLength, addressAt, readAddress}
+use Rattle.packet_address_header.specs.AddressHeader.{hostBytesOf, hostBytes, addressBytes, writeAddress, serviceBytes, rawOf, hostOnWire}
+use Rattle.packet_address_header.specs.AddressHeader.{onWire, wireLength, wireHostBytes, wireBytes}
 
 -- HOSTS
 

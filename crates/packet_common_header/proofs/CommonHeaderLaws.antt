@@ -12,17 +12,8 @@ use Rattle.wire_encoding.specs.Result.{ok}
 use Rattle.wire_encoding.specs.BigEndian.{bytesOf}
 use Rattle.wire_encoding.proofs.Result.{same-value, held}
 use Rattle.packet_common_header.specs.declared.CommonHeader.{CommonHeader}
-use Rattle.packet_common_header.specs.CommonHeader.{
-  commonAt,
-  hostLength,
-  versionOf,
-  factorOf,
-  readCommon,
-  commonBytes,
-  fieldsFit,
-  commonFits,
-  writeCommon,
-}
+use Rattle.packet_common_header.specs.CommonHeader.{commonAt, hostLength, versionOf, factorOf, readCommon, commonBytes, fieldsFit, commonFits}
+use Rattle.packet_common_header.specs.CommonHeader.{writeCommon}
 
 -- a host has at most 16 bytes
 pub host-few : (kind : ℕ) → hostLength kind ≤ 16

@@ -10,13 +10,8 @@ use Rattle.packet_address_header.specs.AddressHeader.{kindOf, addressLength, ad
 use Rattle.packet_common_header.specs.declared.CommonHeader.{CommonHeader}
 use Rattle.packet_address_header.specs.declared.AddressHeader.{AddressHeader}
 use Rattle.errors.specs.declared.packet_error.EncodeError.{EncodeError}
-use Rattle.errors.specs.declared.packet_error.EncodeError.the-variants.{
-  NumberTooWide,
-  InvalidHeaderLength,
-  HeaderTooLarge,
-  PayloadTooLarge,
-  InadequateBufferSize,
-}
+use Rattle.errors.specs.declared.packet_error.EncodeError.the-variants.{NumberTooWide, InvalidHeaderLength, HeaderTooLarge, PayloadTooLarge}
+use Rattle.errors.specs.declared.packet_error.EncodeError.the-variants.{InadequateBufferSize}
 use Rattle.packet_headers.specs.declared.ScionHeaders.{ScionHeaders}
 
 -- a path to be written is a type byte and bytes: type 0 adds no bytes, any other adds its bytes as given, unread

@@ -12,15 +12,7 @@ use Rattle.wire_encoding.specs.Result.{Result, ok, refused, refusing}
 use Rattle.wire_encoding.specs.BigEndian.{bigEndian, room}
 use Rattle.wire_encoding.specs.Bits.{withBit}
 use Rattle.wire_encoding.proofs.Result.{same-value, held, stepped, refusing-ok, either, refused-alike}
-use Rattle.path_meta_header.specs.MetaHeader.{
-  metaOf,
-  infoFieldsCount,
-  hopFieldsCount,
-  pathLength,
-  readMeta,
-  infoFieldOffset,
-  hopFieldOffset,
-}
+use Rattle.path_meta_header.specs.MetaHeader.{metaOf, infoFieldsCount, hopFieldsCount, pathLength, readMeta, infoFieldOffset, hopFieldOffset}
 use Rattle.path_meta_header.specs.declared.PathMetaHeader.{PathMetaHeader}
 use Rattle.path_meta_header.proofs.MetaHeader.{Sound, checked-sound, sound-checked}
 use Rattle.errors.specs.declared.packet_error.Decoded.the-variants as decoded
@@ -36,23 +28,8 @@ use Rattle.path.specs.declared.dataplane.DataplaneRead.{DataplaneRead}
 use Rattle.path.specs.declared.dataplane.Located.{Located}
 use Rattle.path.specs.Standard.{readPath, pathUnder, pathRead}
 use Rattle.path.specs.Segment.{Fields, nowhere}
-use Rattle.path.specs.Dataplane.{
-  Extent,
-  headless,
-  readStandard,
-  readDataplane,
-  dataplaneRead,
-  standard,
-  metaHeaderOf,
-  pathAnswer,
-  infoFieldIn,
-  hopFieldIn,
-  segmentIn,
-  located,
-  alerted,
-  Among,
-  ViewsInside,
-}
+use Rattle.path.specs.Dataplane.{Extent, headless, readStandard, readDataplane, dataplaneRead, standard, metaHeaderOf, pathAnswer, infoFieldIn}
+use Rattle.path.specs.Dataplane.{hopFieldIn, segmentIn, located, alerted, Among, ViewsInside}
 use Rattle.path.proofs.Segment as segments
 
 -- WHAT AN ANSWER SAYS

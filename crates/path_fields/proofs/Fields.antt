@@ -1,4 +1,4 @@
--- A field read from its part is the field read where the part stands; so two hop fields of the same bytes are the same, and an info field
+-- A field read from its part is the field read where the part stands; so two fields of the same bytes are the same, and an info field
 -- tells its bytes. The direction decides which interface is which.
 -- Assumes nothing.
 use Prim.Native.Nat.{ℕ, _+_, _%_, _≤_, _<_}

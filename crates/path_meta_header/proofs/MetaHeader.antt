@@ -19,23 +19,8 @@ use Rattle.errors.specs.declared.path_error.DataplanePathErrorKind.the-variants
 use Rattle.errors.specs.declared.packet_error.Decoded.the-variants.{Accepted, Refused}
 use Rattle.errors.proofs.Errors as told
 use Rattle.path_meta_header.specs.declared.MetaRead.{MetaRead}
-use Rattle.path_meta_header.specs.MetaHeader.{
-  segmentLength,
-  infoFieldsCount,
-  hopFieldsCount,
-  segmentOf,
-  firstHopField,
-  segmentOfLink,
-  lengthsValid,
-  infoValid,
-  hopValid,
-  checked,
-  nthField,
-  metaOf,
-  metaRead,
-  Link,
-  Links,
-}
+use Rattle.path_meta_header.specs.MetaHeader.{segmentLength, infoFieldsCount, hopFieldsCount, segmentOf, firstHopField, segmentOfLink}
+use Rattle.path_meta_header.specs.MetaHeader.{lengthsValid, infoValid, hopValid, checked, nthField, metaOf, metaRead, Link, Links}
 
 -- there are at most as many info fields as hop fields, since only lengths that are not zero count
 pub info-le-hop : (m : PathMetaHeader) → infoFieldsCount m ≤ hopFieldsCount m

@@ -19,11 +19,7 @@ use Rattle.errors.specs.declared.path_error.PathError.{PathError}
 use Rattle.errors.specs.declared.path_error.PathError.the-variants as error
 use Rattle.errors.specs.declared.packet_error.DecodeError.{DecodeError}
 use Rattle.errors.specs.declared.packet_error.DecodeError.the-variants.{PacketEmptyOrTruncated, InvalidPath}
-use Rattle.errors.specs.declared.path_error.DataplanePathErrorKind.the-variants.{
-  InvalidSegmentLengths,
-  InfoFieldOutOfRange,
-  HopFieldOutOfRange,
-}
+use Rattle.errors.specs.declared.path_error.DataplanePathErrorKind.the-variants.{InvalidSegmentLengths, InfoFieldOutOfRange, HopFieldOutOfRange}
 
 -- field n of the six fields of a 32-bit number: the highest 2 bits, then five times 6
 unfoldable pub nthField : ℕ → ℕ → ℕ

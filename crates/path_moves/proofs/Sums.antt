@@ -16,24 +16,8 @@ use Rattle.path_meta_header.specs.MetaHeader.{hopFieldsCount, infoStart}
 use Rattle.path_meta_header.specs.declared.PathMetaHeader.{PathMetaHeader}
 use Rattle.wire_encoding.specs.Result.{Result, ok, refused}
 use Rattle.errors.specs.declared.path_error.PathError.{PathError}
-use Rattle.path_moves.specs.Moves.{
-  CanMove,
-  CountsAdd,
-  Way,
-  WalksAdd,
-  applied,
-  isLast,
-  iterate,
-  moveBytes,
-  moveFrom,
-  moved,
-  movedMeta,
-  positionOf,
-  walk,
-  walkCount,
-  walkMoves,
-  walked,
-}
+use Rattle.path_moves.specs.Moves.{CanMove, CountsAdd, Way, WalksAdd, applied, isLast, iterate, moveBytes, moveFrom, moved, movedMeta}
+use Rattle.path_moves.specs.Moves.{positionOf, walk, walkCount, walkMoves, walked}
 use Rattle.path_moves.specs.Rules.{movable}
 use Rattle.path_moves.proofs.Moves.{standing, fits, move-applied, moved-is, iterate-add}
 use Rattle.path_moves.proofs.Rules.{type-one}

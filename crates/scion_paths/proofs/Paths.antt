@@ -19,17 +19,8 @@ use Rattle.path_moves.specs.Moves.{walkAnswer}
 use Rattle.path.specs.declared.standard.StandardPath.{StandardPath}
 use Rattle.path.specs.declared.standard.Part.{Part}
 use Rattle.scion_paths.specs.Answer.{answerOut}
-use Rattle.scion_paths.specs.Paths.{
-  pathAnswerOut,
-  infoFieldOut,
-  hopFieldOut,
-  segmentOut,
-  expiryOut,
-  timeLeftOut,
-  interfaceCountOut,
-  interfaceOut,
-  walkOut,
-}
+use Rattle.scion_paths.specs.Paths.{pathAnswerOut, infoFieldOut, hopFieldOut, segmentOut, expiryOut, timeLeftOut, interfaceCountOut}
+use Rattle.scion_paths.specs.Paths.{interfaceOut, walkOut}
 
 -- the record of no path, and no part
 abbrev pub zeros : StandardPath

@@ -4,35 +4,10 @@
 use mathlib.Core.Path.{_≡_, refl, sym, ap, ap₂, _∙_}
 use mathlib.Core.Bool.{Bool, true, false, not, cond}
 use Prim.Native.Nat.{ℕ, zero, suc, _+_, _-_, _*_, _/_, _%_, _^_, _<_, min, max}
-use native.Mathlib.Nat.{
-  add-mul-div-right,
-  add-mul-mod-self-right,
-  add-mul,
-  one-mul,
-  add-zero,
-  mod-lt,
-  mod-eq-of-lt,
-  min-zero,
-  div-add-mod',
-  zero-lt-suc,
-}
+use native.Mathlib.Nat.{add-mul-div-right, add-mul-mod-self-right, add-mul, one-mul, add-zero, mod-lt, mod-eq-of-lt, min-zero, div-add-mod'}
+use native.Mathlib.Nat.{zero-lt-suc}
 use native.Mathlib.Omega.{arith}
-use lib.Bits.{
-  bitAnd,
-  bitOr,
-  bitXor,
-  differ,
-  or-block,
-  and-block,
-  xor-block,
-  or-step,
-  and-step,
-  xor-step,
-  or-zero-r,
-  xor-zero-r,
-  xor-self,
-  and-mask,
-}
+use lib.Bits.{bitAnd, bitOr, bitXor, differ, or-block, and-block, xor-block, or-step, and-step, xor-step, or-zero-r, xor-zero-r, xor-self, and-mask}
 use lib.Arith.{bin-ind, digits-div, digits-mod}
 use borrow.Author.Tests.{eq-eqb, ne-eqb, eqb-true, eqb-false}
 use lib.Dec.{lit<}

@@ -8,21 +8,8 @@ use native.Mathlib.Nat.{add-assoc, add-zero, add-suc, suc-add}
 use native.Mathlib.Omega.{arith}
 use lib.Dec.{ltb}
 use lib.ListN.{length, take, drop, getD, set, length-take, length-drop, length-set, drop-of-length-le, take-append-drop}
-use lib.Seq.{
-  sets,
-  sets-eq,
-  set-comm,
-  drop-cons,
-  take-suc,
-  getD-drop,
-  getD-take,
-  drop-drop,
-  take-add,
-  ext-getD,
-  take-append-le,
-  drop-append-le,
-  drop-append-add,
-}
+use lib.Seq.{sets, sets-eq, set-comm, drop-cons, take-suc, getD-drop, getD-take, drop-drop, take-add, ext-getD, take-append-le, drop-append-le}
+use lib.Seq.{drop-append-add}
 use borrow.Author.Tests.{ltb-true, ltb-false}
 use mir.Val.{Fits}
 use mir.Syntax.{w8}

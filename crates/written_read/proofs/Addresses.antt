@@ -12,16 +12,7 @@ use Rattle.wire_encoding.proofs.Lists.{Bytes, part-join}
 use Rattle.wire_encoding.proofs.BigEndian.{length-bytesOf, bytes-read, read-bytesOf}
 use Rattle.wire_encoding.specs.Result.{ok}
 use Rattle.packet_common_header.specs.CommonHeader.{hostLength}
-use Rattle.packet_address_header.specs.AddressHeader.{
-  kindOf,
-  hostAt,
-  lengthOfKinds,
-  addressLength,
-  addressAt,
-  readAddress,
-  hostBytes,
-  addressBytes,
-}
+use Rattle.packet_address_header.specs.AddressHeader.{kindOf, hostAt, lengthOfKinds, addressLength, addressAt, readAddress, hostBytes, addressBytes}
 use Rattle.packet_address_header.specs.declared.AddressHeader.{AddressHeader}
 use Rattle.packet_address_header.proofs.AddressHeaderLaws.{kind-read, address-read, Sixteen, length-hostBytes, length-addressBytes}
 use Rattle.written_read.specs.WrittenRead.{hostRead, addressRead, PaddingZero}

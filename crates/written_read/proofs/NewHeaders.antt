@@ -17,15 +17,7 @@ use Rattle.packet_common_header.specs.CommonHeader.{hostLength}
 use Rattle.packet_address_header.specs.AddressHeader as address
 use Rattle.packet_address_header.specs.AddressHeader.{lengthOfKinds, addressLength}
 use Rattle.packet.specs.Raw.{readPacket}
-use Rattle.packet_headers.specs.Headers.{
-  addedLength,
-  addedBytes,
-  headersLength,
-  newHeaders,
-  commonOf,
-  headerBytes,
-  writeHeaders,
-}
+use Rattle.packet_headers.specs.Headers.{addedLength, addedBytes, headersLength, newHeaders, commonOf, headerBytes, writeHeaders}
 use Rattle.written_read.specs.WrittenRead.{ReadWhole, NewHeadersFull, NewHeadersFill, RoundedDown}
 
 pub new-headers-full : NewHeadersFull

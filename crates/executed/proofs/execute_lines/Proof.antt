@@ -6,14 +6,8 @@ use borrow.Author.Needs.{needs}
 use Rattle.executed.proofs.execute_lines.Statement.{statement}
 use Rattle.executed.proofs.execute_lines.Tie as tie
 
-slice-reshare-prefix-last-line-end : tie.Need-slice-reshare-prefix-last-line-end
-slice-reshare-prefix-last-line-end c = search needs
-
 slice-aggregate-last-line-end : tie.Need-slice-aggregate-last-line-end
 slice-aggregate-last-line-end c = sym (length-take-le _ (c .before .before .args .input .now) (c .before .before .pre))
-
-last-line-end-requires : tie.Need-last-line-end-requires
-last-line-end-requires c κs = search needs
 
 slice-reshare-prefix-execute-all : tie.Need-slice-reshare-prefix-execute-all
 slice-reshare-prefix-execute-all c =
@@ -27,9 +21,6 @@ slice-aggregate-execute-all c =
     let seen = length-take-le (start .args .filled) (start .args .input .now) (start .pre) in
     sym (length-take-le _ (start .args .input .now) (omega (arith, c .before .last-line-end .ensures, seen)))
 
-execute-all-requires : tie.Need-execute-all-requires
-execute-all-requires c κs = search needs
-
 keep-rest-requires : tie.Need-keep-rest-requires
 keep-rest-requires c κs =
     let end = c .before .before .before in
@@ -37,22 +28,16 @@ keep-rest-requires c κs =
     let seen = length-take-le (start .args .filled) (start .args .input .now) (start .pre) in
     (omega (arith, end .last-line-end .ensures, seen), start .pre)
 
-same-length : tie.Need-same-length
-same-length c = search needs
-
-returns : tie.Need-returns
-returns c = search needs
-
 pub execute-lines-spec : {M : Type 1} → statement M
 execute-lines-spec =
     tie.close
     (tie.spec
-    slice-reshare-prefix-last-line-end
+    (λ c. search needs)
     slice-aggregate-last-line-end
-    last-line-end-requires
+    (λ c κs. search needs)
     slice-reshare-prefix-execute-all
     slice-aggregate-execute-all
-    execute-all-requires
+    (λ c κs. search needs)
     keep-rest-requires
-    same-length
-    returns)
+    (λ c. search needs)
+    (λ c. search needs))

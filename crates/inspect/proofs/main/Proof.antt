@@ -10,45 +10,18 @@ Inv-loop count k₀ k = Unit {0}
 abbrev μ-loop : tie.MeasureT-loop
 μ-loop count k₀ k = count - k
 
-arg-count-requires : tie.Need-arg-count-requires Inv-loop μ-loop
-arg-count-requires c κs = search needs
-
-slice-aggregate-inspect-open : tie.Need-slice-aggregate-inspect-open Inv-loop μ-loop
-slice-aggregate-inspect-open c = search needs
-
-inspect-open-requires : tie.Need-inspect-open-requires Inv-loop μ-loop
-inspect-open-requires c κs = search needs
-
-loop-holds : tie.Need-loop-holds Inv-loop μ-loop
-loop-holds c = search needs
-
-inspect-named-requires : tie.Need-inspect-named-requires Inv-loop μ-loop
-inspect-named-requires c κs = search needs
-
-add-k : tie.Need-add-k Inv-loop μ-loop
-add-k c = search needs
-
-loop-less : tie.Need-loop-less Inv-loop μ-loop
-loop-less c = search needs
-
-loop-again : tie.Need-loop-again Inv-loop μ-loop
-loop-again c = search needs
-
-returns : tie.Need-returns Inv-loop μ-loop
-returns c = search needs
-
 pub main-spec : {M : Type 1} → statement M
 main-spec =
     tie.close
     (tie.spec
     Inv-loop
     μ-loop
-    arg-count-requires
-    slice-aggregate-inspect-open
-    inspect-open-requires
-    loop-holds
-    inspect-named-requires
-    add-k
-    loop-less
-    loop-again
-    returns)
+    (λ c κs. search needs)
+    (λ c. search needs)
+    (λ c κs. search needs)
+    (λ c. search needs)
+    (λ c κs. search needs)
+    (λ c. search needs)
+    (λ c. search needs)
+    (λ c. search needs)
+    (λ c. search needs))

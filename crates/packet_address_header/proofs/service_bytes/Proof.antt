@@ -10,15 +10,9 @@ use borrow.Author.Needs.{needs}
 use Rattle.packet_address_header.proofs.service_bytes.Statement.{statement}
 use Rattle.packet_address_header.proofs.service_bytes.Tie as tie
 
-slice-aggregate-put-u16 : tie.Need-slice-aggregate-put-u16
-slice-aggregate-put-u16 c = search needs
-
-put-u16-requires : tie.Need-put-u16-requires
-put-u16-requires c κs = search needs
-
 returns : tie.Need-returns
 unfolding serviceBytes
 returns c = c .before .put-u16 .ensures .1 ∙ placed-is (replicate 16 0) 0 (bytesOf 2 _) 2 (length-bytesOf 2 _) (omega arith)
 
 pub service-bytes-spec : {M : Type 1} → statement M
-service-bytes-spec = tie.close (tie.spec slice-aggregate-put-u16 put-u16-requires returns)
+service-bytes-spec = tie.close (tie.spec (λ c. search needs) (λ c κs. search needs) returns)

@@ -6,15 +6,6 @@ use borrow.Author.Needs.{needs}
 use Rattle.path_expiry.proofs.expiry_time.Statement.{statement}
 use Rattle.path_expiry.proofs.expiry_time.Tie as tie
 
-standard-requires : tie.Need-standard-requires
-standard-requires c κs = search needs
-
-enum-known-answer : tie.Need-enum-known-answer
-enum-known-answer c = search needs
-
-refused-requires : tie.Need-refused-requires
-refused-requires c κs = search needs
-
 returns : tie.Need-returns
 unfolding spec.expiryIn spec.expiryFound
 returns c =
@@ -22,16 +13,10 @@ returns c =
     let read = answer-refused _ (told .before .before .standard .ensures) (told .answer .given .1) in
     (rw read (c .refused .ensures), rw (c .refused .ensures) (omega arith))
 
-enum-told : tie.Need-enum-told
-enum-told c = search needs
-
 path-expiry-requires : tie.Need-path-expiry-requires
 path-expiry-requires c κs =
     let read = standard-readable _ _ (answer-ok _ (c .before .before .standard .ensures) (c .enum-told .given .1)) in
     (omega (arith, read .sound-meta .info), read .whole)
-
-accepted-requires : tie.Need-accepted-requires
-accepted-requires c κs = search needs
 
 returns-2 : tie.Need-returns-2
 unfolding spec.expiryIn spec.expiryFound
@@ -45,11 +30,11 @@ pub expiry-time-spec : {M : Type 1} → statement M
 expiry-time-spec =
     tie.close
     (tie.spec
-    standard-requires
-    enum-known-answer
-    refused-requires
+    (λ c κs. search needs)
+    (λ c. search needs)
+    (λ c κs. search needs)
     returns
-    enum-told
+    (λ c. search needs)
     path-expiry-requires
-    accepted-requires
+    (λ c κs. search needs)
     returns-2)

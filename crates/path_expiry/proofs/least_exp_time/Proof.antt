@@ -16,33 +16,9 @@ Inv-loop hop-fields count least₀ last₀ least last = (last < count) × (least
 abbrev μ-loop : tie.MeasureT-loop
 μ-loop hop-fields count least₀ last₀ least last = count - last
 
-shared-slice-read-least : tie.Need-shared-slice-read-least Inv-loop μ-loop
-shared-slice-read-least c = search needs
-
 loop-holds : tie.Need-loop-holds Inv-loop μ-loop
 unfolding spec.least
 loop-holds c = search needs
-
-add-loop : tie.Need-add-loop Inv-loop μ-loop
-add-loop c = search needs
-
-add-last : tie.Need-add-last Inv-loop μ-loop
-add-last c = search needs
-
-mul-lesser-byte : tie.Need-mul-lesser-byte Inv-loop μ-loop
-mul-lesser-byte c = search needs
-
-add-lesser-byte : tie.Need-add-lesser-byte Inv-loop μ-loop
-add-lesser-byte c = search needs
-
-shared-slice-read-lesser-byte : tie.Need-shared-slice-read-lesser-byte Inv-loop μ-loop
-shared-slice-read-lesser-byte c = search needs
-
-lesser-byte-requires : tie.Need-lesser-byte-requires Inv-loop μ-loop
-lesser-byte-requires c κs = search needs
-
-loop-less : tie.Need-loop-less Inv-loop μ-loop
-loop-less c = search needs
 
 loop-again : tie.Need-loop-again Inv-loop μ-loop
 loop-again c = (search needs, rw (least-more, ← c .before .before .before .loop .inv .1, zero-add) (c .lesser-byte .ensures))
@@ -59,14 +35,14 @@ least-exp-time-spec =
     (tie.spec
     Inv-loop
     μ-loop
-    shared-slice-read-least
+    (λ c. search needs)
     loop-holds
-    add-loop
-    add-last
-    mul-lesser-byte
-    add-lesser-byte
-    shared-slice-read-lesser-byte
-    lesser-byte-requires
-    loop-less
+    (λ c. search needs)
+    (λ c. search needs)
+    (λ c. search needs)
+    (λ c. search needs)
+    (λ c. search needs)
+    (λ c κs. search needs)
+    (λ c. search needs)
     loop-again
     returns)

@@ -32,12 +32,6 @@ difference c =
     ap₂ _-ℤ_ (toZ-pos w64 {n = c .args .expiry} (omega arith)) (toZ-pos w64 {n = c .args .at} (omega arith))
     ∙ minus (c .args .expiry) (c .args .at)
 
-cast-result : tie.Need-cast-result
-cast-result c = search needs
-
-cast-result-2 : tie.Need-cast-result-2
-cast-result-2 c = search needs
-
 sub-result : tie.Need-sub-result
 sub-result c = record { sfits = rw (difference c) (minus-small (c .args .expiry) (c .args .at) (omega arith) (omega arith)) }
 
@@ -45,4 +39,4 @@ returns : tie.Need-returns
 returns c = toZ-ofZ (sub-result c) ∙ difference c
 
 pub left-spec : {M : Type 1} → statement M
-left-spec = tie.close (tie.spec cast-result cast-result-2 sub-result returns)
+left-spec = tie.close (tie.spec (λ c. search needs) (λ c. search needs) sub-result returns)

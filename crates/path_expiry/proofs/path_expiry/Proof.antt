@@ -16,30 +16,9 @@ Inv-loop bytes meta-header count least₀ last₀ least last =
 abbrev μ-loop : tie.MeasureT-loop
 μ-loop bytes meta-header count least₀ last₀ least last = count - last
 
-info-fields-count-requires : tie.Need-info-fields-count-requires Inv-loop μ-loop
-info-fields-count-requires c κs = search needs
-
-segment-expiry-requires : tie.Need-segment-expiry-requires Inv-loop μ-loop
-segment-expiry-requires c κs = search needs
-
 loop-holds : tie.Need-loop-holds Inv-loop μ-loop
 unfolding spec.least
 loop-holds c = search needs
-
-add-loop : tie.Need-add-loop Inv-loop μ-loop
-add-loop c = search needs
-
-add-last : tie.Need-add-last Inv-loop μ-loop
-add-last c = search needs
-
-segment-expiry-requires-2 : tie.Need-segment-expiry-requires-2 Inv-loop μ-loop
-segment-expiry-requires-2 c κs = search needs
-
-lesser-requires : tie.Need-lesser-requires Inv-loop μ-loop
-lesser-requires c κs = search needs
-
-loop-less : tie.Need-loop-less Inv-loop μ-loop
-loop-less c = search needs
 
 loop-again : tie.Need-loop-again Inv-loop μ-loop
 loop-again c = (
@@ -60,13 +39,13 @@ path-expiry-spec =
     (tie.spec
     Inv-loop
     μ-loop
-    info-fields-count-requires
-    segment-expiry-requires
+    (λ c κs. search needs)
+    (λ c κs. search needs)
     loop-holds
-    add-loop
-    add-last
-    segment-expiry-requires-2
-    lesser-requires
-    loop-less
+    (λ c. search needs)
+    (λ c. search needs)
+    (λ c κs. search needs)
+    (λ c κs. search needs)
+    (λ c. search needs)
     loop-again
     returns)

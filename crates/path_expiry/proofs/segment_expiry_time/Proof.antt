@@ -9,29 +9,11 @@ use borrow.Author.Needs.{needs}
 use Rattle.path_expiry.proofs.segment_expiry_time.Statement.{statement}
 use Rattle.path_expiry.proofs.segment_expiry_time.Tie as tie
 
-standard-requires : tie.Need-standard-requires
-standard-requires c κs = search needs
-
-enum-known-answer : tie.Need-enum-known-answer
-enum-known-answer c = search needs
-
-refused-requires : tie.Need-refused-requires
-refused-requires c κs = search needs
-
 returns : tie.Need-returns
 unfolding spec.segmentExpiryIn
 returns c =
     let told = c .before .before in
     rw (answer-refused _ (told .before .before .standard .ensures) (told .answer .given .1)) (c .refused .ensures)
-
-enum-told : tie.Need-enum-told
-enum-told c = search needs
-
-info-fields-count-requires : tie.Need-info-fields-count-requires
-info-fields-count-requires c κs = search needs
-
-refused-requires-2 : tie.Need-refused-requires-2
-refused-requires-2 c κs = search needs
 
 returns-2 : tie.Need-returns-2
 unfolding spec.segmentExpiryIn spec.expiryFound
@@ -46,9 +28,6 @@ segment-expiry-requires c κs =
     let told = c .before .before .before in
     let read = answer-ok _ (told .before .before .standard .ensures) (told .enum-told .given .1) in
     (omega arith, standard-readable _ _ read .whole)
-
-accepted-requires : tie.Need-accepted-requires
-accepted-requires c κs = search needs
 
 returns-3 : tie.Need-returns-3
 unfolding spec.segmentExpiryIn spec.expiryFound
@@ -65,14 +44,14 @@ pub segment-expiry-time-spec : {M : Type 1} → statement M
 segment-expiry-time-spec =
     tie.close
     (tie.spec
-    standard-requires
-    enum-known-answer
-    refused-requires
+    (λ c κs. search needs)
+    (λ c. search needs)
+    (λ c κs. search needs)
     returns
-    enum-told
-    info-fields-count-requires
-    refused-requires-2
+    (λ c. search needs)
+    (λ c κs. search needs)
+    (λ c κs. search needs)
     returns-2
     segment-expiry-requires
-    accepted-requires
+    (λ c κs. search needs)
     returns-3)

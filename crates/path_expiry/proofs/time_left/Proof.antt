@@ -12,26 +12,11 @@ use borrow.Author.Needs.{needs}
 use Rattle.path_expiry.proofs.time_left.Statement.{statement}
 use Rattle.path_expiry.proofs.time_left.Tie as tie
 
-expiry-time-requires : tie.Need-expiry-time-requires
-expiry-time-requires c κs = search needs
-
-enum-known-answer : tie.Need-enum-known-answer
-enum-known-answer c = search needs
-
-refused-requires : tie.Need-refused-requires
-refused-requires c κs = search needs
-
 returns : tie.Need-returns
 unfolding spec.timeLeftIn spec.timeLeftFound
 returns c =
     let told = c .before .before in
     rw (expiry-refused _ _ (told .before .before .expiry-time .ensures .0) (told .answer .given .1)) (c .refused .ensures)
-
-enum-told : tie.Need-enum-told
-enum-told c = search needs
-
-refused-requires-2 : tie.Need-refused-requires-2
-refused-requires-2 c κs = search needs
 
 returns-2 : tie.Need-returns-2
 unfolding spec.timeLeftIn spec.timeLeftFound
@@ -39,12 +24,6 @@ returns-2 c =
     let told = c .before .before in
     let found = expiry-ok _ _ (told .before .before .expiry-time .ensures .0) (told .enum-told .given .1) in
     rw (found, lt-leb _ _ (c .before .if1 .taken)) (c .refused2 .ensures)
-
-left-requires : tie.Need-left-requires
-left-requires c κs = search needs
-
-accepted-requires : tie.Need-accepted-requires
-accepted-requires c κs = search needs
 
 returns-3 : tie.Need-returns-3
 unfolding spec.timeLeftIn spec.timeLeftFound
@@ -63,13 +42,13 @@ pub time-left-spec : {M : Type 1} → statement M
 time-left-spec =
     tie.close
     (tie.spec
-    expiry-time-requires
-    enum-known-answer
-    refused-requires
+    (λ c κs. search needs)
+    (λ c. search needs)
+    (λ c κs. search needs)
     returns
-    enum-told
-    refused-requires-2
+    (λ c. search needs)
+    (λ c κs. search needs)
     returns-2
-    left-requires
-    accepted-requires
+    (λ c κs. search needs)
+    (λ c κs. search needs)
     returns-3)

@@ -7,14 +7,8 @@ use borrow.Author.Needs.{needs}
 use Rattle.path_expiry.proofs.timestamp_at.Statement.{statement}
 use Rattle.path_expiry.proofs.timestamp_at.Tie as tie
 
-add-u32-or-zero : tie.Need-add-u32-or-zero
-add-u32-or-zero c = search needs
-
-u32-or-zero-requires : tie.Need-u32-or-zero-requires
-u32-or-zero-requires c κs = search needs
-
 returns : tie.Need-returns
 returns c = c .u32-or-zero .ensures ∙ or-zero-is 4 (c .before .before .args .bytes .now) (c .before .before .args .at + 4) (omega arith)
 
 pub timestamp-at-spec : {M : Type 1} → statement M
-timestamp-at-spec = tie.close (tie.spec add-u32-or-zero u32-or-zero-requires returns)
+timestamp-at-spec = tie.close (tie.spec (λ c. search needs) (λ c κs. search needs) returns)

@@ -8,29 +8,11 @@ use borrow.Author.Needs.{needs}
 use Rattle.path_interfaces.proofs.interface.Statement.{statement}
 use Rattle.path_interfaces.proofs.interface.Tie as tie
 
-standard-requires : tie.Need-standard-requires
-standard-requires c κs = search needs
-
-enum-known-answer : tie.Need-enum-known-answer
-enum-known-answer c = search needs
-
-refused-requires : tie.Need-refused-requires
-refused-requires c κs = search needs
-
 returns : tie.Need-returns
 unfolding spec.interfaceIn
 returns c =
     let told = c .before .before in
     rw (answer-refused _ (told .before .before .standard .ensures) (told .answer .given .1)) (c .refused .ensures)
-
-enum-told : tie.Need-enum-told
-enum-told c = search needs
-
-hop-field-index-for-interface-requires : tie.Need-hop-field-index-for-interface-requires
-hop-field-index-for-interface-requires c κs = search needs
-
-enum-known-hop : tie.Need-enum-known-hop
-enum-known-hop c = search needs
 
 interface-at-requires : tie.Need-interface-at-requires
 interface-at-requires c κs =
@@ -39,15 +21,6 @@ interface-at-requires c κs =
     let read = answer-ok _ (told .before .before .standard .ensures) (told .enum-told .given .1) in
     let found = sym (index .hop-field-index-for-interface .ensures) ∙ ap hopFieldFound (c .before .hop .given .1) in
     interface-there _ _ (standard-readable _ _ read) _ found
-
-accepted-requires : tie.Need-accepted-requires
-accepted-requires c κs = search needs
-
-enum-told-2 : tie.Need-enum-told-2
-enum-told-2 c = search needs
-
-refused-requires-2 : tie.Need-refused-requires-2
-refused-requires-2 c κs = search needs
 
 returns-2 : tie.Need-returns-2
 unfolding spec.interfaceIn spec.interfaceFound
@@ -70,16 +43,16 @@ pub interface-spec : {M : Type 1} → statement M
 interface-spec =
     tie.close
     (tie.spec
-    standard-requires
-    enum-known-answer
-    refused-requires
+    (λ c κs. search needs)
+    (λ c. search needs)
+    (λ c κs. search needs)
     returns
-    enum-told
-    hop-field-index-for-interface-requires
-    enum-known-hop
+    (λ c. search needs)
+    (λ c κs. search needs)
+    (λ c. search needs)
     interface-at-requires
-    accepted-requires
-    enum-told-2
-    refused-requires-2
+    (λ c κs. search needs)
+    (λ c. search needs)
+    (λ c κs. search needs)
     returns-2
     returns-3)

@@ -34,39 +34,9 @@ hop c =
     ∙ ap (λ n. hopFieldIn (a .bytes .now) (n + a .hop * 12)) (c .before .hop-fields-start .ensures .0)
     ∙ hop-in (a .bytes .now) (hopStart (a .meta-header) (a .hop)) (start .pre .hop-inside)
 
-segment-of-requires : tie.Need-segment-of-requires
-segment-of-requires c κs = search needs
-
-mul-at : tie.Need-mul-at
-mul-at c = search needs
-
-add-at : tie.Need-add-at
-add-at c = search needs
-
-at-requires : tie.Need-at-requires
-at-requires c κs = search needs
-
-hop-fields-start-requires : tie.Need-hop-fields-start-requires
-hop-fields-start-requires c κs = search needs
-
-mul-at-2 : tie.Need-mul-at-2
-mul-at-2 c = search needs
-
-add-at-2 : tie.Need-add-at-2
-add-at-2 c = search needs
-
-at-requires-2 : tie.Need-at-requires-2
-at-requires-2 c κs = search needs
-
-egress-interface-requires : tie.Need-egress-interface-requires
-egress-interface-requires c κs = search needs
-
 returns : tie.Need-returns
 unfolding spec.interfaceAt
 returns c = rw (eq-eqb _ _ (c .before .if1 .taken), ← info (c .before .before), ← hop (c .before .before)) (c .egress-interface .ensures)
-
-ingress-interface-requires : tie.Need-ingress-interface-requires
-ingress-interface-requires c κs = search needs
 
 returns-2 : tie.Need-returns-2
 unfolding spec.interfaceAt
@@ -76,15 +46,15 @@ pub interface-at-spec : {M : Type 1} → statement M
 interface-at-spec =
     tie.close
     (tie.spec
-    segment-of-requires
-    mul-at
-    add-at
-    at-requires
-    hop-fields-start-requires
-    mul-at-2
-    add-at-2
-    at-requires-2
-    egress-interface-requires
+    (λ c κs. search needs)
+    (λ c. search needs)
+    (λ c. search needs)
+    (λ c κs. search needs)
+    (λ c κs. search needs)
+    (λ c. search needs)
+    (λ c. search needs)
+    (λ c κs. search needs)
+    (λ c κs. search needs)
     returns
-    ingress-interface-requires
+    (λ c κs. search needs)
     returns-2)

@@ -5,26 +5,11 @@ use borrow.Author.Needs.{needs}
 use Rattle.path_interfaces.proofs.interfaces_count.Statement.{statement}
 use Rattle.path_interfaces.proofs.interfaces_count.Tie as tie
 
-standard-requires : tie.Need-standard-requires
-standard-requires c κs = search needs
-
-enum-known-answer : tie.Need-enum-known-answer
-enum-known-answer c = search needs
-
-refused-requires : tie.Need-refused-requires
-refused-requires c κs = search needs
-
 returns : tie.Need-returns
 unfolding spec.interfacesIn
 returns c =
     let told = c .before .before in
     rw (answer-refused _ (told .before .before .standard .ensures) (told .answer .given .1)) (c .refused .ensures)
-
-enum-told : tie.Need-enum-told
-enum-told c = search needs
-
-of-requires : tie.Need-of-requires
-of-requires c κs = search needs
 
 returns-2 : tie.Need-returns-2
 unfolding spec.interfacesIn spec.interfaceCount
@@ -36,10 +21,10 @@ pub interfaces-count-spec : {M : Type 1} → statement M
 interfaces-count-spec =
     tie.close
     (tie.spec
-    standard-requires
-    enum-known-answer
-    refused-requires
+    (λ c κs. search needs)
+    (λ c. search needs)
+    (λ c κs. search needs)
     returns
-    enum-told
-    of-requires
+    (λ c. search needs)
+    (λ c κs. search needs)
     returns-2)

@@ -6,15 +6,6 @@ use borrow.Author.Needs.{needs}
 use Rattle.path_meta_header.proofs.fits_6.Statement.{statement}
 use Rattle.path_meta_header.proofs.fits_6.Tie as tie
 
-new-requires : tie.Need-new-requires
-new-requires c κs = search needs
-
-enum-told : tie.Need-enum-told
-enum-told c = search needs
-
-enum-told-2 : tie.Need-enum-told-2
-enum-told-2 c = search needs
-
 returns : tie.Need-returns
 returns c = was-value 6 _ (sym (ap answerU6 (c .enum-told .given .1)) ∙ c .before .before .new .ensures)
 
@@ -22,4 +13,4 @@ returns-2 : tie.Need-returns-2
 returns-2 c = was-wide 6 _ (sym (ap answerU6 (c .enum-told2 .given .1)) ∙ c .before .before .new .ensures)
 
 pub fits-6-spec : {M : Type 1} → statement M
-fits-6-spec = tie.close (tie.spec new-requires enum-told enum-told-2 returns returns-2)
+fits-6-spec = tie.close (tie.spec (λ c κs. search needs) (λ c. search needs) (λ c. search needs) returns returns-2)

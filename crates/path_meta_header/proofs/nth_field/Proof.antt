@@ -4,21 +4,9 @@ use borrow.Author.Needs.{needs}
 use Rattle.path_meta_header.proofs.nth_field.Statement.{statement}
 use Rattle.path_meta_header.proofs.nth_field.Tie as tie
 
-sub-result : tie.Need-sub-result
-sub-result c = search needs
-
-mul-result : tie.Need-mul-result
-mul-result c = search needs
-
-shr-result : tie.Need-shr-result
-shr-result c = search needs
-
-cast-result : tie.Need-cast-result
-cast-result c = search needs
-
 returns : tie.Need-returns
 unfolding spec.nthField
 returns c = search needs
 
 pub nth-field-spec : {M : Type 1} → statement M
-nth-field-spec = tie.close (tie.spec sub-result mul-result shr-result cast-result returns)
+nth-field-spec = tie.close (tie.spec (λ c. search needs) (λ c. search needs) (λ c. search needs) (λ c. search needs) returns)

@@ -11,30 +11,6 @@ use Rattle.path_moves.proofs.Moves.{applied-placed}
 use Rattle.path_moves.proofs.apply.Statement.{statement}
 use Rattle.path_moves.proofs.apply.Tie as tie
 
-mul-at : tie.Need-mul-at
-mul-at c = search needs
-
-add-at : tie.Need-add-at
-add-at c = search needs
-
-add-at-2 : tie.Need-add-at-2
-add-at-2 c = search needs
-
-u16-or-zero-requires : tie.Need-u16-or-zero-requires
-u16-or-zero-requires c κs = search needs
-
-mul-bytes : tie.Need-mul-bytes
-mul-bytes c = search needs
-
-add-bytes : tie.Need-add-bytes
-add-bytes c = search needs
-
-slice-write-bytes : tie.Need-slice-write-bytes
-slice-write-bytes c = search needs
-
-put-u16-requires : tie.Need-put-u16-requires
-put-u16-requires c κs = search needs
-
 same-length : tie.Need-same-length
 same-length c = ap length (c .before .before .put-u16 .ensures .1) ∙ simp (length-placed, length-set)
 
@@ -51,13 +27,13 @@ pub apply-spec : {M : Type 1} → statement M
 apply-spec =
     tie.close
     (tie.spec
-    mul-at
-    add-at
-    add-at-2
-    u16-or-zero-requires
-    mul-bytes
-    add-bytes
-    slice-write-bytes
-    put-u16-requires
+    (λ c. search needs)
+    (λ c. search needs)
+    (λ c. search needs)
+    (λ c κs. search needs)
+    (λ c. search needs)
+    (λ c. search needs)
+    (λ c. search needs)
+    (λ c κs. search needs)
     same-length
     returns)

@@ -9,9 +9,6 @@ use borrow.Author.Needs.{needs}
 use Rattle.path_moves.proofs.is_peering_path.Statement.{statement}
 use Rattle.path_moves.proofs.is_peering_path.Tie as tie
 
-info-fields-count-requires : tie.Need-info-fields-count-requires
-info-fields-count-requires c κs = search needs
-
 returns : tie.Need-returns
 unfolding peeringPath
 returns c = rw (← c .before .info-fields-count .ensures .0, ne-eqb _ _ (c .if1 .taken))
@@ -23,12 +20,6 @@ info-field-at-requires c κs = (omega arith, omega arith)
 info-field-at-requires-2 : tie.Need-info-field-at-requires-2
 unfolding pathLength
 info-field-at-requires-2 c κs = (omega arith, omega arith)
-
-is-peering-requires : tie.Need-is-peering-requires
-is-peering-requires c κs = search needs
-
-is-peering-requires-2 : tie.Need-is-peering-requires-2
-is-peering-requires-2 c κs = search needs
 
 returns-2 : tie.Need-returns-2
 unfolding peeringPath
@@ -61,11 +52,11 @@ pub is-peering-path-spec : {M : Type 1} → statement M
 is-peering-path-spec =
     tie.close
     (tie.spec
-    info-fields-count-requires
+    (λ c κs. search needs)
     returns
     info-field-at-requires
     info-field-at-requires-2
-    is-peering-requires
-    is-peering-requires-2
+    (λ c κs. search needs)
+    (λ c κs. search needs)
     returns-2
     returns-3)

@@ -17,12 +17,6 @@ below owner s0 h = go (eqb (owner + 1) s0) refl
     go true e = eq-eqb owner (s0 - 1) (omega (arith, eqb-true (owner + 1) s0 e))
     go false e = ne-eqb owner (s0 - 1) (λ x. omega (arith, eqb-false (owner + 1) s0 e)) ∙ sym (ne-eqb owner s0 (λ x. omega arith))
 
-is-peering-requires : tie.Need-is-peering-requires
-is-peering-requires c κs = search needs
-
-sub-result : tie.Need-sub-result
-sub-result c = search needs
-
 returns : tie.Need-returns
 unfolding spared
 returns c =
@@ -42,4 +36,4 @@ unfolding spared
 returns-3 c = rw (← c .before .is-peering .ensures, c .if1 .left)
 
 pub is-spared-spec : {M : Type 1} → statement M
-is-spared-spec = tie.close (tie.spec is-peering-requires sub-result returns returns-2 returns-3)
+is-spared-spec = tie.close (tie.spec (λ c κs. search needs) (λ c. search needs) returns returns-2 returns-3)

@@ -16,29 +16,11 @@ read : (c : tie.After-enum-told)
     standard (a .path .«path_type») (a .bytes .now) ≡ ok (call .standard .result .path .«meta_header»)
 read c = answer-ok _ (c .before .before .standard .ensures) (c .enum-told .given .1)
 
-standard-requires : tie.Need-standard-requires
-standard-requires c κs = search needs
-
-enum-known-answer : tie.Need-enum-known-answer
-enum-known-answer c = search needs
-
-refused-requires : tie.Need-refused-requires
-refused-requires c κs = search needs
-
 returns : tie.Need-returns
 unfolding movable
 returns c =
     let told = c .before .before in
     rw (answer-refused _ (told .before .before .standard .ensures) (told .answer .given .1)) (c .refused .ensures)
-
-enum-told : tie.Need-enum-told
-enum-told c = search needs
-
-hop-fields-count-requires : tie.Need-hop-fields-count-requires
-hop-fields-count-requires c κs = search needs
-
-refused-requires-2 : tie.Need-refused-requires-2
-refused-requires-2 c κs = search needs
 
 returns-2 : tie.Need-returns-2
 unfolding movable
@@ -48,9 +30,6 @@ returns-2 c =
 
 peering-allowed-requires : tie.Need-peering-allowed-requires
 peering-allowed-requires c κs = standard-readable _ _ (read (c .before .before .before)) .whole
-
-accepted-requires : tie.Need-accepted-requires
-accepted-requires c κs = search needs
 
 returns-3 : tie.Need-returns-3
 unfolding movable pathAnswer
@@ -65,9 +44,6 @@ returns-3 c =
       c .before .if2 .taken,
     )
     (c .accepted .ensures)
-
-refused-requires-3 : tie.Need-refused-requires-3
-refused-requires-3 c κs = search needs
 
 returns-4 : tie.Need-returns-4
 unfolding movable
@@ -87,16 +63,16 @@ pub movable-spec : {M : Type 1} → statement M
 movable-spec =
     tie.close
     (tie.spec
-    standard-requires
-    enum-known-answer
-    refused-requires
+    (λ c κs. search needs)
+    (λ c. search needs)
+    (λ c κs. search needs)
     returns
-    enum-told
-    hop-fields-count-requires
-    refused-requires-2
+    (λ c. search needs)
+    (λ c κs. search needs)
+    (λ c κs. search needs)
     returns-2
     peering-allowed-requires
-    accepted-requires
+    (λ c κs. search needs)
     returns-3
-    refused-requires-3
+    (λ c κs. search needs)
     returns-4)

@@ -5,18 +5,9 @@ use Rattle.path_moves.specs.Rules.{ownerOf}
 use Rattle.path_moves.proofs.owner_of.Statement.{statement}
 use Rattle.path_moves.proofs.owner_of.Tie as tie
 
-wide-requires : tie.Need-wide-requires
-wide-requires c κs = search needs
-
-is-constructed-dir-requires : tie.Need-is-constructed-dir-requires
-is-constructed-dir-requires c κs = search needs
-
 returns : tie.Need-returns
 unfolding ownerOf
 returns c = rw (← c .before .is-constructed-dir .ensures, c .if1 .taken) (c .before .before .wide .ensures .0, omega arith, omega arith)
-
-add-result : tie.Need-add-result
-add-result c = search needs
 
 returns-2 : tie.Need-returns-2
 unfolding ownerOf
@@ -24,4 +15,4 @@ returns-2 c = rw (← c .before .is-constructed-dir .ensures, c .if1 .left) (ome
 
 pub owner-of-spec : {M : Type 1} → statement M
 owner-of-spec =
-    tie.close (tie.spec wide-requires is-constructed-dir-requires returns add-result returns-2)
+    tie.close (tie.spec (λ c κs. search needs) (λ c κs. search needs) returns (λ c. search needs) returns-2)

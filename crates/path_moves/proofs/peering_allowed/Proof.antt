@@ -6,15 +6,9 @@ use Rattle.path_moves.specs.Rules.{peeringAllowed}
 use Rattle.path_moves.proofs.peering_allowed.Statement.{statement}
 use Rattle.path_moves.proofs.peering_allowed.Tie as tie
 
-info-fields-count-requires : tie.Need-info-fields-count-requires
-info-fields-count-requires c κs = search needs
-
 some-peering-requires : tie.Need-some-peering-requires
 unfolding pathLength
 some-peering-requires c κs = (omega arith, omega arith)
-
-is-peering-path-requires : tie.Need-is-peering-path-requires
-is-peering-path-requires c κs = search needs
 
 returns : tie.Need-returns
 unfolding peeringAllowed
@@ -30,8 +24,8 @@ pub peering-allowed-spec : {M : Type 1} → statement M
 peering-allowed-spec =
     tie.close
     (tie.spec
-    info-fields-count-requires
+    (λ c κs. search needs)
     some-peering-requires
-    is-peering-path-requires
+    (λ c κs. search needs)
     returns
     returns-2)

@@ -24,41 +24,11 @@ can c =
     can-move _ _ (goes-on _ _ (told .before .before .movable .ensures) (told .enum-told .given .1) .1)
     (λ last. c .before .if1 .left (omega arith))
 
-movable-requires : tie.Need-movable-requires
-movable-requires c κs = search needs
-
-enum-known-answer : tie.Need-enum-known-answer
-enum-known-answer c = search needs
-
-refused-requires : tie.Need-refused-requires
-refused-requires c κs = search needs
-
-same-length : tie.Need-same-length
-same-length c = search needs
-
 returns : tie.Need-returns
 unfolding moved move
 returns c =
     let told = c .before .before in
     rw (answer-refused _ (told .before .before .movable .ensures) (told .answer .given .1)) (c .refused .ensures, refl)
-
-enum-told : tie.Need-enum-told
-enum-told c = search needs
-
-wide-requires : tie.Need-wide-requires
-wide-requires c κs = search needs
-
-add-if1 : tie.Need-add-if1
-add-if1 c = search needs
-
-hop-fields-count-requires : tie.Need-hop-fields-count-requires
-hop-fields-count-requires c κs = search needs
-
-refused-requires-2 : tie.Need-refused-requires-2
-refused-requires-2 c κs = search needs
-
-same-length-2 : tie.Need-same-length-2
-same-length-2 c = search needs
 
 returns-2 : tie.Need-returns-2
 unfolding moved move isLast
@@ -78,12 +48,6 @@ returns-2 c =
 step-requires : tie.Need-step-requires
 step-requires c κs = can c
 
-accepted-requires : tie.Need-accepted-requires
-accepted-requires c κs = search needs
-
-same-length-3 : tie.Need-same-length-3
-same-length-3 c = search needs
-
 returns-3 : tie.Need-returns-3
 unfolding moved pathAnswer
 returns-3 c =
@@ -101,19 +65,19 @@ pub single-move-spec : {M : Type 1} → statement M
 single-move-spec =
     tie.close
     (tie.spec
-    movable-requires
-    enum-known-answer
-    refused-requires
-    same-length
+    (λ c κs. search needs)
+    (λ c. search needs)
+    (λ c κs. search needs)
+    (λ c. search needs)
     returns
-    enum-told
-    wide-requires
-    add-if1
-    hop-fields-count-requires
-    refused-requires-2
-    same-length-2
+    (λ c. search needs)
+    (λ c κs. search needs)
+    (λ c. search needs)
+    (λ c κs. search needs)
+    (λ c κs. search needs)
+    (λ c. search needs)
     returns-2
     step-requires
-    accepted-requires
-    same-length-3
+    (λ c κs. search needs)
+    (λ c. search needs)
     returns-3)

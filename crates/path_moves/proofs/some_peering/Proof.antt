@@ -21,12 +21,6 @@ loop-holds : tie.Need-loop-holds Inv-loop μ-loop
 unfolding somePeering
 loop-holds c = (omega arith, refl)
 
-info-field-at-requires : tie.Need-info-field-at-requires Inv-loop μ-loop
-info-field-at-requires c κs = search needs
-
-is-peering-requires : tie.Need-is-peering-requires Inv-loop μ-loop
-is-peering-requires c κs = search needs
-
 returns : tie.Need-returns Inv-loop μ-loop
 returns c =
     let read = c .before .before in
@@ -35,12 +29,6 @@ returns c =
     let k = at-loop .loop .k in
     let here = c .before .is-peering .ensures ∙ ap peering (read .info-field-at .ensures) in
     sym (some-peering (a .bytes .now) (a .count) k (omega arith) (sym here ∙ c .if1 .taken))
-
-add-k : tie.Need-add-k Inv-loop μ-loop
-add-k c = search needs
-
-loop-less : tie.Need-loop-less Inv-loop μ-loop
-loop-less c = search needs
 
 loop-again : tie.Need-loop-again Inv-loop μ-loop
 unfolding somePeering
@@ -65,10 +53,10 @@ some-peering-spec =
     Inv-loop
     μ-loop
     loop-holds
-    info-field-at-requires
-    is-peering-requires
+    (λ c κs. search needs)
+    (λ c κs. search needs)
     returns
-    add-k
-    loop-less
+    (λ c. search needs)
+    (λ c. search needs)
     loop-again
     returns-2)

@@ -7,15 +7,6 @@ use Rattle.path_moves.proofs.Moves.{standing, fits, move-applied}
 use Rattle.path_moves.proofs.step.Statement.{statement}
 use Rattle.path_moves.proofs.step.Tie as tie
 
-of-requires : tie.Need-of-requires
-of-requires c κs = search needs
-
-moved-requires : tie.Need-moved-requires
-moved-requires c κs = search needs
-
-wide-requires : tie.Need-wide-requires
-wide-requires c κs = search needs
-
 apply-requires : tie.Need-apply-requires
 apply-requires c κs =
     let made = c .before .before in
@@ -23,12 +14,6 @@ apply-requires c κs =
     let start = own .before .before in
     let s = standing _ _ (start .pre) in
     (omega arith, fits _ _ (start .pre) (rw (own .of .ensures) at (made .moved .ensures)))
-
-at-position-requires : tie.Need-at-position-requires
-at-position-requires c κs = search needs
-
-same-length : tie.Need-same-length
-same-length c = search needs
 
 returns : tie.Need-returns
 unfolding movedMeta
@@ -49,10 +34,10 @@ pub step-spec : {M : Type 1} → statement M
 step-spec =
     tie.close
     (tie.spec
-    of-requires
-    moved-requires
-    wide-requires
+    (λ c κs. search needs)
+    (λ c κs. search needs)
+    (λ c κs. search needs)
     apply-requires
-    at-position-requires
-    same-length
+    (λ c κs. search needs)
+    (λ c. search needs)
     returns)

@@ -16,30 +16,12 @@ Inv-loop bytes₀ limit count meta-header₀ hop₀ moves₀ bytes meta-header h
 abbrev μ-loop : tie.MeasureT-loop
 μ-loop bytes₀ limit count meta-header₀ hop₀ moves₀ bytes meta-header hop moves = limit - moves
 
-hop-fields-count-requires : tie.Need-hop-fields-count-requires Inv-loop μ-loop
-hop-fields-count-requires c κs = search needs
-
-wide-requires : tie.Need-wide-requires Inv-loop μ-loop
-wide-requires c κs = search needs
-
 loop-holds : tie.Need-loop-holds Inv-loop μ-loop
 loop-holds c =
     (begin _ _ (c .before .before .before .pre) (c .wide .ensures .0), c .before .before .slice-known .given, omega arith)
 
-add-if1 : tie.Need-add-if1 Inv-loop μ-loop
-add-if1 c = search needs
-
 step-requires : tie.Need-step-requires Inv-loop μ-loop
 step-requires c κs = can _ _ _ _ (c .before .before .before .loop .inv .0) (omega arith)
-
-add-hop : tie.Need-add-hop Inv-loop μ-loop
-add-hop c = search needs
-
-add-moves : tie.Need-add-moves Inv-loop μ-loop
-add-moves c = search needs
-
-loop-less : tie.Need-loop-less Inv-loop μ-loop
-loop-less c = search needs
 
 loop-again : tie.Need-loop-again Inv-loop μ-loop
 loop-again c =
@@ -72,14 +54,14 @@ steps-spec =
     (tie.spec
     Inv-loop
     μ-loop
-    hop-fields-count-requires
-    wide-requires
+    (λ c κs. search needs)
+    (λ c κs. search needs)
     loop-holds
-    add-if1
+    (λ c. search needs)
     step-requires
-    add-hop
-    add-moves
-    loop-less
+    (λ c. search needs)
+    (λ c. search needs)
+    (λ c. search needs)
     loop-again
     same-length
     returns

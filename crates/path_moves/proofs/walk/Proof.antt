@@ -19,46 +19,22 @@ short c =
     let able = goes-on _ _ (told .before .before .movable .ensures) (told .enum-told .given .1) .1 in
     omega (arith, known _ _ able .few, gone .steps .ensures .0)
 
-movable-requires : tie.Need-movable-requires
-movable-requires c κs = search needs
-
-enum-known-answer : tie.Need-enum-known-answer
-enum-known-answer c = search needs
-
-refused-requires : tie.Need-refused-requires
-refused-requires c κs = search needs
-
-same-length : tie.Need-same-length
-same-length c = search needs
-
 returns : tie.Need-returns
 unfolding walked walk walkAnswer
 returns c =
     let told = c .before .before in
     rw (answer-refused _ (told .before .before .movable .ensures) (told .answer .given .1)) (c .refused .ensures, refl)
 
-enum-told : tie.Need-enum-told
-enum-told c = search needs
-
 steps-requires : tie.Need-steps-requires
 steps-requires c κs =
     let told = c .before .before in
     goes-on _ _ (told .before .before .movable .ensures) (told .enum-told .given .1) .1
-
-wide-requires : tie.Need-wide-requires
-wide-requires c κs = search needs
 
 add-t18 : tie.Need-add-t18
 add-t18 c = omega (arith, short c)
 
 add-t19 : tie.Need-add-t19
 add-t19 c = omega (arith, short c)
-
-hop-fields-count-requires : tie.Need-hop-fields-count-requires
-hop-fields-count-requires c κs = search needs
-
-same-length-2 : tie.Need-same-length-2
-same-length-2 c = search needs
 
 returns-2 : tie.Need-returns-2
 unfolding walked walkAnswer isLast
@@ -75,16 +51,16 @@ pub walk-spec : {M : Type 1} → statement M
 walk-spec =
     tie.close
     (tie.spec
-    movable-requires
-    enum-known-answer
-    refused-requires
-    same-length
+    (λ c κs. search needs)
+    (λ c. search needs)
+    (λ c κs. search needs)
+    (λ c. search needs)
     returns
-    enum-told
+    (λ c. search needs)
     steps-requires
-    wide-requires
+    (λ c κs. search needs)
     add-t18
     add-t19
-    hop-fields-count-requires
-    same-length-2
+    (λ c κs. search needs)
+    (λ c. search needs)
     returns-2)

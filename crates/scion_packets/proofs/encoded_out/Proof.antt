@@ -4,15 +4,6 @@ use borrow.Author.Needs.{needs}
 use Rattle.scion_packets.proofs.encoded_out.Statement.{statement}
 use Rattle.scion_packets.proofs.encoded_out.Tie as tie
 
-enum-told : tie.Need-enum-told
-enum-told c = search needs
-
-enum-known-answer : tie.Need-enum-known-answer
-enum-known-answer c = search needs
-
-number-requires : tie.Need-number-requires
-number-requires c κs = search needs
-
 returns : tie.Need-returns
 unfolding encodedOut
 returns c = rw (c .enum-told .given .1)
@@ -23,4 +14,4 @@ returns-2 c = rw (c .before .before .answer .given .1, c .number .ensures)
 
 pub encoded-out-spec : {M : Type 1} → statement M
 encoded-out-spec =
-    tie.close (tie.spec enum-told enum-known-answer number-requires returns returns-2)
+    tie.close (tie.spec (λ c. search needs) (λ c. search needs) (λ c κs. search needs) returns returns-2)

@@ -4,12 +4,9 @@ use borrow.Author.Needs.{needs}
 use Rattle.scion_packets.proofs.headers_in.Statement.{statement}
 use Rattle.scion_packets.proofs.headers_in.Tie as tie
 
-address-in-requires : tie.Need-address-in-requires
-address-in-requires c κs = search needs
-
 returns : tie.Need-returns
 unfolding headersIn
 returns c = rw (c .address-in .ensures)
 
 pub headers-in-spec : {M : Type 1} → statement M
-headers-in-spec = tie.close (tie.spec address-in-requires returns)
+headers-in-spec = tie.close (tie.spec (λ c κs. search needs) returns)

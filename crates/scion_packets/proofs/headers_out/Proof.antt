@@ -4,15 +4,9 @@ use borrow.Author.Needs.{needs}
 use Rattle.scion_packets.proofs.headers_out.Statement.{statement}
 use Rattle.scion_packets.proofs.headers_out.Tie as tie
 
-host-out-requires : tie.Need-host-out-requires
-host-out-requires c κs = search needs
-
-host-out-requires-2 : tie.Need-host-out-requires-2
-host-out-requires-2 c κs = search needs
-
 returns : tie.Need-returns
 unfolding headersOut
 returns c = rw (c .before .host-out .ensures, c .host-out2 .ensures)
 
 pub headers-out-spec : {M : Type 1} → statement M
-headers-out-spec = tie.close (tie.spec host-out-requires host-out-requires-2 returns)
+headers-out-spec = tie.close (tie.spec (λ c κs. search needs) (λ c κs. search needs) returns)

@@ -4,15 +4,9 @@ use borrow.Author.Needs.{needs}
 use Rattle.scion_packets.proofs.host_out.Statement.{statement}
 use Rattle.scion_packets.proofs.host_out.Tie as tie
 
-kind-requires : tie.Need-kind-requires
-kind-requires c κs = search needs
-
-service-of-requires : tie.Need-service-of-requires
-service-of-requires c κs = search needs
-
 returns : tie.Need-returns
 unfolding hostOut
 returns c = rw (c .before .kind .ensures, c .service-of .ensures)
 
 pub host-out-spec : {M : Type 1} → statement M
-host-out-spec = tie.close (tie.spec kind-requires service-of-requires returns)
+host-out-spec = tie.close (tie.spec (λ c κs. search needs) (λ c κs. search needs) returns)

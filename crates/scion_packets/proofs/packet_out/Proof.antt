@@ -4,18 +4,9 @@ use borrow.Author.Needs.{needs}
 use Rattle.scion_packets.proofs.packet_out.Statement.{statement}
 use Rattle.scion_packets.proofs.packet_out.Tie as tie
 
-decoded-out-requires : tie.Need-decoded-out-requires
-decoded-out-requires c κs = search needs
-
-host-out-requires : tie.Need-host-out-requires
-host-out-requires c κs = search needs
-
-host-out-requires-2 : tie.Need-host-out-requires-2
-host-out-requires-2 c κs = search needs
-
 returns : tie.Need-returns
 unfolding packetOut
 returns c = rw (c .before .before .decoded-out .ensures, c .before .host-out .ensures, c .host-out2 .ensures)
 
 pub packet-out-spec : {M : Type 1} → statement M
-packet-out-spec = tie.close (tie.spec decoded-out-requires host-out-requires host-out-requires-2 returns)
+packet-out-spec = tie.close (tie.spec (λ c κs. search needs) (λ c κs. search needs) (λ c κs. search needs) returns)

@@ -4,18 +4,6 @@ use borrow.Author.Needs.{needs}
 use Rattle.scion_paths.proofs.answer_out.Statement.{statement}
 use Rattle.scion_paths.proofs.answer_out.Tie as tie
 
-enum-told : tie.Need-enum-told
-enum-told c = search needs
-
-enum-known-answer : tie.Need-enum-known-answer
-enum-known-answer c = search needs
-
-number-requires : tie.Need-number-requires
-number-requires c κs = search needs
-
-value-requires : tie.Need-value-requires
-value-requires c κs = search needs
-
 returns : tie.Need-returns
 unfolding answerOut
 returns c = rw (c .enum-told .given .1)
@@ -27,4 +15,4 @@ returns-2 c = rw (c .before .before .before .answer .given .1, c .before .number
 pub answer-out-spec : {M : Type 1} → statement M
 answer-out-spec =
     tie.close
-    (tie.spec enum-told enum-known-answer number-requires value-requires returns returns-2)
+    (tie.spec (λ c. search needs) (λ c. search needs) (λ c κs. search needs) (λ c κs. search needs) returns returns-2)

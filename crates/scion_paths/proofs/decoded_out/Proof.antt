@@ -4,18 +4,6 @@ use borrow.Author.Needs.{needs}
 use Rattle.scion_paths.proofs.decoded_out.Statement.{statement}
 use Rattle.scion_paths.proofs.decoded_out.Tie as tie
 
-enum-told : tie.Need-enum-told
-enum-told c = search needs
-
-answer-out-requires : tie.Need-answer-out-requires
-answer-out-requires c κs = search needs
-
-enum-known-answer : tie.Need-enum-known-answer
-enum-known-answer c = search needs
-
-answer-out-requires-2 : tie.Need-answer-out-requires-2
-answer-out-requires-2 c κs = search needs
-
 returns : tie.Need-returns
 unfolding answerOut decodedOut
 returns c = rw (c .before .enum-told .given .1) (c .answer-out .ensures)
@@ -28,9 +16,9 @@ pub decoded-out-spec : {M : Type 1} → statement M
 decoded-out-spec =
     tie.close
     (tie.spec
-    enum-told
-    answer-out-requires
-    enum-known-answer
-    answer-out-requires-2
+    (λ c. search needs)
+    (λ c κs. search needs)
+    (λ c. search needs)
+    (λ c κs. search needs)
     returns
     returns-2)

@@ -4,15 +4,6 @@ use borrow.Author.Needs.{needs}
 use Rattle.scion_paths.proofs.hop_field_out.Statement.{statement}
 use Rattle.scion_paths.proofs.hop_field_out.Tie as tie
 
-part-of-requires : tie.Need-part-of-requires
-part-of-requires c κs = search needs
-
-new-requires : tie.Need-new-requires
-new-requires c κs = search needs
-
-answer-out-requires : tie.Need-answer-out-requires
-answer-out-requires c κs = search needs
-
 returns : tie.Need-returns
 unfolding hopFieldOut
 returns c =
@@ -20,4 +11,4 @@ returns c =
     rw (c .answer-out .ensures, read .new .ensures, read .before .part-of .ensures)
 
 pub hop-field-out-spec : {M : Type 1} → statement M
-hop-field-out-spec = tie.close (tie.spec part-of-requires new-requires answer-out-requires returns)
+hop-field-out-spec = tie.close (tie.spec (λ c κs. search needs) (λ c κs. search needs) (λ c κs. search needs) returns)

@@ -4,15 +4,6 @@ use borrow.Author.Needs.{needs}
 use Rattle.scion_paths.proofs.info_field_out.Statement.{statement}
 use Rattle.scion_paths.proofs.info_field_out.Tie as tie
 
-part-of-requires : tie.Need-part-of-requires
-part-of-requires c κs = search needs
-
-new-requires : tie.Need-new-requires
-new-requires c κs = search needs
-
-answer-out-requires : tie.Need-answer-out-requires
-answer-out-requires c κs = search needs
-
 returns : tie.Need-returns
 unfolding infoFieldOut
 returns c =
@@ -21,4 +12,4 @@ returns c =
 
 pub info-field-out-spec : {M : Type 1} → statement M
 info-field-out-spec =
-    tie.close (tie.spec part-of-requires new-requires answer-out-requires returns)
+    tie.close (tie.spec (λ c κs. search needs) (λ c κs. search needs) (λ c κs. search needs) returns)

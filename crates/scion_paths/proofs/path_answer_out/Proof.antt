@@ -4,12 +4,9 @@ use borrow.Author.Needs.{needs}
 use Rattle.scion_paths.proofs.path_answer_out.Statement.{statement}
 use Rattle.scion_paths.proofs.path_answer_out.Tie as tie
 
-answer-out-requires : tie.Need-answer-out-requires
-answer-out-requires c κs = search needs
-
 returns : tie.Need-returns
 unfolding pathAnswerOut
 returns c = rw (c .answer-out .ensures)
 
 pub path-answer-out-spec : {M : Type 1} → statement M
-path-answer-out-spec = tie.close (tie.spec answer-out-requires returns)
+path-answer-out-spec = tie.close (tie.spec (λ c κs. search needs) returns)

@@ -4,12 +4,9 @@ use borrow.Author.Needs.{needs}
 use Rattle.scion_paths.proofs.path_read_out.Statement.{statement}
 use Rattle.scion_paths.proofs.path_read_out.Tie as tie
 
-decoded-out-requires : tie.Need-decoded-out-requires
-decoded-out-requires c κs = search needs
-
 returns : tie.Need-returns
 unfolding pathReadOut
 returns c = rw (c .decoded-out .ensures)
 
 pub path-read-out-spec : {M : Type 1} → statement M
-path-read-out-spec = tie.close (tie.spec decoded-out-requires returns)
+path-read-out-spec = tie.close (tie.spec (λ c κs. search needs) returns)

@@ -6,9 +6,6 @@ use borrow.Author.Needs.{needs}
 use Rattle.scion_paths.proofs.time_left_out.Statement.{statement}
 use Rattle.scion_paths.proofs.time_left_out.Tie as tie
 
-answer-out-requires : tie.Need-answer-out-requires
-answer-out-requires c κs = search needs
-
 returns : tie.Need-returns
 unfolding timeLeftOut
 returns c =
@@ -16,4 +13,4 @@ returns c =
     rw (c .before .answer-out .ensures, toZ-ofZ {w = w64} {z = left .ms} (record { sfits = c .struct-told .given .1 .1 .0 .1 }))
 
 pub time-left-out-spec : {M : Type 1} → statement M
-time-left-out-spec = tie.close (tie.spec answer-out-requires returns)
+time-left-out-spec = tie.close (tie.spec (λ c κs. search needs) returns)

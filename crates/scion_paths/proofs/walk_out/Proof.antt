@@ -4,12 +4,9 @@ use borrow.Author.Needs.{needs}
 use Rattle.scion_paths.proofs.walk_out.Statement.{statement}
 use Rattle.scion_paths.proofs.walk_out.Tie as tie
 
-answer-out-requires : tie.Need-answer-out-requires
-answer-out-requires c κs = search needs
-
 returns : tie.Need-returns
 unfolding walkOut
 returns c = rw (c .answer-out .ensures)
 
 pub walk-out-spec : {M : Type 1} → statement M
-walk-out-spec = tie.close (tie.spec answer-out-requires returns)
+walk-out-spec = tie.close (tie.spec (λ c κs. search needs) returns)

@@ -51,16 +51,10 @@ add-result c =
     rw (toZ-ofZ (c .before .fits .number), toZ-ofZ (taken c .inside))
     (record { fits = omega (arith, taken c .small) })
 
-returns : tie.Need-returns
-returns c = search needs
-
 cast-result-2 : tie.Need-cast-result-2
 cast-result-2 c =
     let small : Small (c .before .args .number) = above _ (c .before .fits .number) (rw (toZ-ofZ (c .before .fits .number)) at (c .if1 .left)) in
     rw (toZ-ofZ (c .before .fits .number)) (small .positive, record { fits = omega (arith, small .small) })
 
-returns-2 : tie.Need-returns-2
-returns-2 c = search needs
-
 pub distance-spec : {M : Type 1} → statement M
-distance-spec = tie.close (tie.spec sub-result cast-result add-result returns cast-result-2 returns-2)
+distance-spec = tie.close (tie.spec sub-result cast-result add-result (λ c. search needs) cast-result-2 (λ c. search needs))

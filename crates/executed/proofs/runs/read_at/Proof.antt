@@ -8,35 +8,11 @@ use lib.Seq.{length-take-le}
 use Rattle.executed.proofs.runs.read_at.Statement.{statement}
 use Rattle.executed.proofs.runs.read_at.Tie as tie
 
-first-requires : tie.Need-first-requires
-first-requires c κs = search needs
-
-bytes-requires : tie.Need-bytes-requires
-bytes-requires c κs = search needs
-
-after-first-requires : tie.Need-after-first-requires
-after-first-requires c κs = search needs
-
-left-over-requires : tie.Need-left-over-requires
-left-over-requires c κs = search needs
-
 returns : tie.Need-returns
 returns c =
     let run = c .before .before .before .before .before .before .args .left .now in
     let left : c .left-over .result ≡ length run - 12 = c .left-over .ensures ∙ ap length (c .before .after-first .ensures) ∙ length-drop 12 run in
     omega (arith, left)
-
-last-requires : tie.Need-last-requires
-last-requires c κs = search needs
-
-bytes-requires-2 : tie.Need-bytes-requires-2
-bytes-requires-2 c κs = search needs
-
-before-last-requires : tie.Need-before-last-requires
-before-last-requires c κs = search needs
-
-left-over-requires-2 : tie.Need-left-over-requires-2
-left-over-requires-2 c κs = search needs
 
 returns-2 : tie.Need-returns-2
 returns-2 c =
@@ -50,13 +26,13 @@ pub read-at-spec : {M : Type 1} → statement M
 read-at-spec =
     tie.close
     (tie.spec
-    first-requires
-    bytes-requires
-    after-first-requires
-    left-over-requires
+    (λ c κs. search needs)
+    (λ c κs. search needs)
+    (λ c κs. search needs)
+    (λ c κs. search needs)
     returns
-    last-requires
-    bytes-requires-2
-    before-last-requires
-    left-over-requires-2
+    (λ c κs. search needs)
+    (λ c κs. search needs)
+    (λ c κs. search needs)
+    (λ c κs. search needs)
     returns-2)

@@ -11,57 +11,21 @@ Inv-loop line kinds k₀ k = k ≤ length kinds
 abbrev μ-loop : tie.MeasureT-loop
 μ-loop line kinds k₀ k = length kinds - k
 
-loop-holds : tie.Need-loop-holds Inv-loop μ-loop
-loop-holds c = search needs
-
-add-word : tie.Need-add-word Inv-loop μ-loop
-add-word c = search needs
-
-word-requires : tie.Need-word-requires Inv-loop μ-loop
-word-requires c κs = search needs
-
-shared-slice-read-is-of-kind : tie.Need-shared-slice-read-is-of-kind Inv-loop μ-loop
-shared-slice-read-is-of-kind c = search needs
-
-is-of-kind-requires : tie.Need-is-of-kind-requires Inv-loop μ-loop
-is-of-kind-requires c κs = search needs
-
-returns : tie.Need-returns Inv-loop μ-loop
-returns c = search needs
-
-add-k : tie.Need-add-k Inv-loop μ-loop
-add-k c = search needs
-
-loop-less : tie.Need-loop-less Inv-loop μ-loop
-loop-less c = search needs
-
-loop-again : tie.Need-loop-again Inv-loop μ-loop
-loop-again c = search needs
-
-part-start-requires : tie.Need-part-start-requires Inv-loop μ-loop
-part-start-requires c κs = search needs
-
-find-requires : tie.Need-find-requires Inv-loop μ-loop
-find-requires c κs = search needs
-
-returns-2 : tie.Need-returns-2 Inv-loop μ-loop
-returns-2 c = search needs
-
 pub are-of-kinds-spec : {M : Type 1} → statement M
 are-of-kinds-spec =
     tie.close
     (tie.spec
     Inv-loop
     μ-loop
-    loop-holds
-    add-word
-    word-requires
-    shared-slice-read-is-of-kind
-    is-of-kind-requires
-    returns
-    add-k
-    loop-less
-    loop-again
-    part-start-requires
-    find-requires
-    returns-2)
+    (λ c. search needs)
+    (λ c. search needs)
+    (λ c κs. search needs)
+    (λ c. search needs)
+    (λ c κs. search needs)
+    (λ c. search needs)
+    (λ c. search needs)
+    (λ c. search needs)
+    (λ c. search needs)
+    (λ c κs. search needs)
+    (λ c κs. search needs)
+    (λ c. search needs))

@@ -9,15 +9,6 @@ use borrow.Author.Needs.{needs}
 use Rattle.inspect.proofs.header_lines.opaque.Statement.{statement}
 use Rattle.inspect.proofs.header_lines.opaque.Tie as tie
 
-encoded-length-requires : tie.Need-encoded-length-requires
-encoded-length-requires c κs = search needs
-
-slice-aggregate-text : tie.Need-slice-aggregate-text
-slice-aggregate-text c = search needs
-
-text-requires : tie.Need-text-requires
-text-requires c κs = search needs
-
 -- a length of at most sixteen is one of the array
 fits : {n : ℕ} (c : tie.Start) → n ≤ 16 → n ≤ length (c .args .address .bytes)
 fits c h = let sixteen : length (c .args .address .bytes) ≡ 16 = search needs in omega arith
@@ -30,20 +21,14 @@ slice-aggregate-hex c =
     sym (length-take-le _ (c .before .before .before .before .before .args .address .bytes)
     (fits (c .before .before .before .before .before) (c .before .before .before .encoded-length .ensures .1)))
 
-hex-requires : tie.Need-hex-requires
-hex-requires c κs = search needs
-
-returns : tie.Need-returns
-returns c = search needs
-
 pub opaque-spec : {M : Type 1} → statement M
 opaque-spec =
     tie.close
     (tie.spec
-    encoded-length-requires
-    slice-aggregate-text
-    text-requires
+    (λ c κs. search needs)
+    (λ c. search needs)
+    (λ c κs. search needs)
     array-share-prefix-bytes
     slice-aggregate-hex
-    hex-requires
-    returns)
+    (λ c κs. search needs)
+    (λ c. search needs))

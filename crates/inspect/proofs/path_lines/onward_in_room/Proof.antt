@@ -6,31 +6,16 @@ use borrow.Author.Needs.{needs}
 use Rattle.inspect.proofs.path_lines.onward_in_room.Statement.{statement}
 use Rattle.inspect.proofs.path_lines.onward_in_room.Tie as tie
 
-buffer-requires : tie.Need-buffer-requires
-buffer-requires c κs = search needs
-
-returns : tie.Need-returns
-returns c = search needs
-
-array-borrow-prefix-room : tie.Need-array-borrow-prefix-room
-array-borrow-prefix-room c = search needs
-
 slice-aggregate-onward : tie.Need-slice-aggregate-onward
 slice-aggregate-onward c = sym (length-take-le _ (c .before .before .buffer .result) (omega arith))
-
-onward-requires : tie.Need-onward-requires
-onward-requires c κs = search needs
-
-returns-2 : tie.Need-returns-2
-returns-2 c = search needs
 
 pub onward-in-room-spec : {M : Type 1} → statement M
 onward-in-room-spec =
     tie.close
     (tie.spec
-    buffer-requires
-    returns
-    array-borrow-prefix-room
+    (λ c κs. search needs)
+    (λ c. search needs)
+    (λ c. search needs)
     slice-aggregate-onward
-    onward-requires
-    returns-2)
+    (λ c κs. search needs)
+    (λ c. search needs))

@@ -4,9 +4,6 @@ use borrow.Author.Needs.{needs}
 use Rattle.packet.proofs.raw.header_end.Statement.{statement}
 use Rattle.packet.proofs.raw.header_end.Tie as tie
 
-header-length-requires : tie.Need-header-length-requires
-header-length-requires c κs = search needs
-
 returns : tie.Need-returns
 returns c = (omega (arith, c .before .header-length .ensures .0, c .if1 .taken), omega (arith, c .if1 .taken))
 
@@ -14,4 +11,4 @@ returns-2 : tie.Need-returns-2
 returns-2 c = (omega (arith, c .before .header-length .ensures .0, c .if1 .left), omega arith)
 
 pub header-end-spec : {M : Type 1} → statement M
-header-end-spec = tie.close (tie.spec header-length-requires returns returns-2)
+header-end-spec = tie.close (tie.spec (λ c κs. search needs) returns returns-2)

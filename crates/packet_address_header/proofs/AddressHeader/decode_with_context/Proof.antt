@@ -5,25 +5,8 @@ use Rattle.wire_encoding.proofs.BigEndian.{or-zero-is}
 use Rattle.packet_address_header.specs.AddressHeader.{addressAt, addressAnswer, lengthOfKinds}
 use Rattle.packet_address_header.proofs.AddressHeaderLaws.{address-length, truncated, address-read}
 use borrow.Author.Needs.{needs}
-use Rattle.packet_address_header.proofs.AddressHeader.decode_with_context.Statement.{
-  statement,
-}
+use Rattle.packet_address_header.proofs.AddressHeader.decode_with_context.Statement.{statement}
 use Rattle.packet_address_header.proofs.AddressHeader.decode_with_context.Tie as tie
-
-address-length-requires : tie.Need-address-length-requires
-address-length-requires c κs = search needs
-
-add-after : tie.Need-add-after
-add-after c = search needs
-
-address-length-requires-2 : tie.Need-address-length-requires-2
-address-length-requires-2 c κs = search needs
-
-add-end : tie.Need-add-end
-add-end c = search needs
-
-zero-requires : tie.Need-zero-requires
-zero-requires c κs = search needs
 
 returns : tie.Need-returns
 unfolding addressAnswer
@@ -41,12 +24,6 @@ read-requires c κs =
 read-requires-2 : tie.Need-read-requires-2
 read-requires-2 c κs =
     omega (arith, c .before .before .address-length2 .ensures .0, c .before .if1 .left)
-
-u64-or-zero-requires : tie.Need-u64-or-zero-requires
-u64-or-zero-requires c κs = search needs
-
-u64-or-zero-requires-2 : tie.Need-u64-or-zero-requires-2
-u64-or-zero-requires-2 c κs = search needs
 
 returns-2 : tie.Need-returns-2
 unfolding addressAt addressAnswer lengthOfKinds
@@ -77,14 +54,14 @@ pub decode-with-context-spec : {M : Type 1} → statement M
 decode-with-context-spec =
     tie.close
     (tie.spec
-    address-length-requires
-    add-after
-    address-length-requires-2
-    add-end
-    zero-requires
+    (λ c κs. search needs)
+    (λ c. search needs)
+    (λ c κs. search needs)
+    (λ c. search needs)
+    (λ c κs. search needs)
     returns
     read-requires
     read-requires-2
-    u64-or-zero-requires
-    u64-or-zero-requires-2
+    (λ c κs. search needs)
+    (λ c κs. search needs)
     returns-2)

@@ -6,19 +6,10 @@ use Rattle.errors.specs.Errors.{encodedOf}
 use Rattle.errors.proofs.Errors.{written}
 use Rattle.packet_address_header.specs.declared.WireAddress.{WireAddress}
 use Rattle.packet_address_header.specs.AddressHeader.{kindOf, addressLength, addressBytes, writeAddress, hostOnWire, onWire, wireLength}
-use Rattle.packet_address_header.proofs.AddressHeaderLaws.{
-  Sixteen,
-  length-on-wire,
-  bytes-on-wire,
-  length-addressBytes,
-  address-written,
-}
+use Rattle.packet_address_header.proofs.AddressHeaderLaws.{Sixteen, length-on-wire, bytes-on-wire, length-addressBytes, address-written}
 use borrow.Author.Needs.{needs}
 use Rattle.packet_address_header.proofs.AddressHeader.encode_to.Statement.{statement}
 use Rattle.packet_address_header.proofs.AddressHeader.encode_to.Tie as tie
-
-on-wire-requires : tie.Need-on-wire-requires
-on-wire-requires c κs = search needs
 
 -- the kinds that are tested are the hosts'
 kinds : (c : tie.After-on-wire) → let wire = c .on-wire .result in
@@ -41,9 +32,6 @@ returns-2 c =
     let wire = first .before .before in
     rw (lt-ltb _ _ (rw (kinds wire .0) at (first .if1 .left)), le-ltb _ _ (rw (kinds wire .1) at (c .if2 .taken))) (refl, refl)
 
-encoded-length-requires : tie.Need-encoded-length-requires
-encoded-length-requires c κs = search needs
-
 -- and the length is the header's
 long : (c : tie.After-encoded-length) → let wire = c .before .before .before .before .before in
     c .encoded-length .result ≡ addressLength (wire .before .before .args .self)
@@ -64,12 +52,6 @@ returns-3 c =
       ne-eqb _ _ other,
     )
     (refl, refl)
-
-put-requires : tie.Need-put-requires
-put-requires c κs = search needs
-
-same-length : tie.Need-same-length
-same-length c = search needs
 
 -- the arrays beside the hosts
 both-sixteen : (c : tie.Start) → Sixteen (c .args .self)
@@ -93,11 +75,11 @@ pub encode-to-spec : {M : Type 1} → statement M
 encode-to-spec =
     tie.close
     (tie.spec
-    on-wire-requires
+    (λ c κs. search needs)
     returns
     returns-2
-    encoded-length-requires
+    (λ c κs. search needs)
     returns-3
-    put-requires
-    same-length
+    (λ c κs. search needs)
+    (λ c. search needs)
     returns-4)

@@ -5,18 +5,6 @@ use borrow.Author.Needs.{needs}
 use Rattle.packet_address_header.proofs.AddressHeader.encoded_length.Statement.{statement}
 use Rattle.packet_address_header.proofs.AddressHeader.encoded_length.Tie as tie
 
-encoded-length-requires : tie.Need-encoded-length-requires
-encoded-length-requires c κs = search needs
-
-add-result : tie.Need-add-result
-add-result c = search needs
-
-encoded-length-requires-2 : tie.Need-encoded-length-requires-2
-encoded-length-requires-2 c κs = search needs
-
-add-result-2 : tie.Need-add-result-2
-add-result-2 c = search needs
-
 returns : tie.Need-returns
 unfolding addressLength lengthOfKinds
 returns c = (rw (c .before .encoded-length .ensures .0, c .encoded-length2 .ensures .0), omega arith)
@@ -24,4 +12,4 @@ returns c = (rw (c .before .encoded-length .ensures .0, c .encoded-length2 .ensu
 pub encoded-length-spec : {M : Type 1} → statement M
 encoded-length-spec =
     tie.close
-    (tie.spec encoded-length-requires add-result encoded-length-requires-2 add-result-2 returns)
+    (tie.spec (λ c κs. search needs) (λ c. search needs) (λ c κs. search needs) (λ c. search needs) returns)

@@ -4,15 +4,9 @@ use borrow.Author.Needs.{needs}
 use Rattle.packet_address_header.proofs.AddressHeader.on_wire.Statement.{statement}
 use Rattle.packet_address_header.proofs.AddressHeader.on_wire.Tie as tie
 
-on-wire-requires : tie.Need-on-wire-requires
-on-wire-requires c κs = search needs
-
-on-wire-requires-2 : tie.Need-on-wire-requires-2
-on-wire-requires-2 c κs = search needs
-
 returns : tie.Need-returns
 unfolding onWire
 returns c = rw (c .before .on-wire .ensures, c .on-wire2 .ensures)
 
 pub on-wire-spec : {M : Type 1} → statement M
-on-wire-spec = tie.close (tie.spec on-wire-requires on-wire-requires-2 returns)
+on-wire-spec = tie.close (tie.spec (λ c κs. search needs) (λ c κs. search needs) returns)

@@ -4,24 +4,6 @@ use borrow.Author.Needs.{needs}
 use Rattle.packet_address_header.proofs.HostAddress.on_wire.Statement.{statement}
 use Rattle.packet_address_header.proofs.HostAddress.on_wire.Tie as tie
 
-enum-known-host : tie.Need-enum-known-host
-enum-known-host c = search needs
-
-enum-told : tie.Need-enum-told
-enum-told c = search needs
-
-enum-told-2 : tie.Need-enum-told-2
-enum-told-2 c = search needs
-
-enum-known-named : tie.Need-enum-known-named
-enum-known-named c = search needs
-
-service-bytes-requires : tie.Need-service-bytes-requires
-service-bytes-requires c κs = search needs
-
-enum-known-host-2 : tie.Need-enum-known-host-2
-enum-known-host-2 c = search needs
-
 returns : tie.Need-returns
 unfolding hostOnWire kindOf rawOf
 returns c = rw (c .before .before .before .host .given .1, c .enum-told .given .1)
@@ -44,12 +26,12 @@ pub on-wire-spec : {M : Type 1} → statement M
 on-wire-spec =
     tie.close
     (tie.spec
-    enum-known-host
-    enum-told
-    enum-told-2
-    enum-known-named
-    service-bytes-requires
-    enum-known-host-2
+    (λ c. search needs)
+    (λ c. search needs)
+    (λ c. search needs)
+    (λ c. search needs)
+    (λ c κs. search needs)
+    (λ c. search needs)
     returns
     returns-2
     returns-3

@@ -8,20 +8,11 @@ use borrow.Author.Needs.{needs}
 use Rattle.packet_address_header.proofs.HostAddress.read.Statement.{statement}
 use Rattle.packet_address_header.proofs.HostAddress.read.Tie as tie
 
-address-length-requires : tie.Need-address-length-requires
-address-length-requires c κs = search needs
-
-u16-or-zero-requires : tie.Need-u16-or-zero-requires
-u16-or-zero-requires c κs = search needs
-
 returns : tie.Need-returns
 unfolding hostAt hostLength
 returns c =
     let args = c .before .before .before .before .args in
     rw (eq-eqb _ _ (c .before .if1 .taken), c .u16-or-zero .ensures, or-zero-is 2 (args .bytes .now) (args .at) (omega arith))
-
-of-kind-requires : tie.Need-of-kind-requires
-of-kind-requires c κs = search needs
 
 raw-host-address-requires : tie.Need-raw-host-address-requires
 raw-host-address-requires c κs =
@@ -38,9 +29,9 @@ pub read-spec : {M : Type 1} → statement M
 read-spec =
     tie.close
     (tie.spec
-    address-length-requires
-    u16-or-zero-requires
+    (λ c κs. search needs)
+    (λ c κs. search needs)
     returns
-    of-kind-requires
+    (λ c κs. search needs)
     raw-host-address-requires
     returns-2)

@@ -23,26 +23,11 @@ returns c =
     let a = start .args in
     rw (no-room (a .dst .now) (a .at) (wireBytes (a .self)) _ (size start) (omega arith)) (refl, refl)
 
-sub-if2 : tie.Need-sub-if2
-sub-if2 c = search needs
-
-encoded-length-requires : tie.Need-encoded-length-requires
-encoded-length-requires c κs = search needs
-
 returns-2 : tie.Need-returns-2
 returns-2 c =
     let start = c .before .before .before .before in
     let a = start .args in
     rw (no-room (a .dst .now) (a .at) (wireBytes (a .self)) _ (size start) (omega (arith, c .before .encoded-length .ensures .0))) (refl, refl)
-
-add-destination-at : tie.Need-add-destination-at
-add-destination-at c = search needs
-
-encoded-length-requires-2 : tie.Need-encoded-length-requires-2
-encoded-length-requires-2 c κs = search needs
-
-add-source-at : tie.Need-add-source-at
-add-source-at c = search needs
 
 -- there is room for all of it
 room : (c : tie.Else2) → let start = c .before .before .before .before in
@@ -53,9 +38,6 @@ put-requires : tie.Need-put-requires
 unfolding wireLength lengthOfKinds
 put-requires c κs = omega (arith, room (c .before .before))
 
-put-u64-requires : tie.Need-put-u64-requires
-put-u64-requires c κs = search needs
-
 put-requires-2 : tie.Need-put-requires-2
 unfolding wireLength lengthOfKinds
 put-requires-2 c κs =
@@ -63,15 +45,6 @@ put-requires-2 c κs =
     let host = number .before .before .before .before in
     let after = host .before .before in
     omega (arith, room (after .before), after .encoded-length2 .ensures .0)
-
-add-put-u64 : tie.Need-add-put-u64
-add-put-u64 c = search needs
-
-put-u64-requires-2 : tie.Need-put-u64-requires-2
-put-u64-requires-2 c κs = search needs
-
-same-length : tie.Need-same-length
-same-length c = search needs
 
 returns-3 : tie.Need-returns-3
 returns-3 c =
@@ -93,16 +66,16 @@ put-spec =
     tie.close
     (tie.spec
     returns
-    sub-if2
-    encoded-length-requires
+    (λ c. search needs)
+    (λ c κs. search needs)
     returns-2
-    add-destination-at
-    encoded-length-requires-2
-    add-source-at
+    (λ c. search needs)
+    (λ c κs. search needs)
+    (λ c. search needs)
     put-requires
-    put-u64-requires
+    (λ c κs. search needs)
     put-requires-2
-    add-put-u64
-    put-u64-requires-2
-    same-length
+    (λ c. search needs)
+    (λ c κs. search needs)
+    (λ c. search needs)
     returns-3)

@@ -18,9 +18,6 @@ Inv-loop dst₀ at len bytes done₀ dst done = Written bytes dst₀ at len dst 
 abbrev μ-loop : tie.MeasureT-loop
 μ-loop dst₀ at len bytes done₀ dst done = len - done
 
-encoded-length-requires : tie.Need-encoded-length-requires Inv-loop μ-loop
-encoded-length-requires c κs = search needs
-
 loop-holds : tie.Need-loop-holds Inv-loop μ-loop
 loop-holds c = record {
   so-far = refl;
@@ -51,15 +48,6 @@ part-put-u32-start c = omega (arith, room c)
 
 part-put-u32-end : tie.Need-part-put-u32-end Inv-loop μ-loop
 part-put-u32-end c = omega (arith, room c)
-
-slice-aggregate-u32-or-zero : tie.Need-slice-aggregate-u32-or-zero Inv-loop μ-loop
-slice-aggregate-u32-or-zero c = search needs
-
-u32-or-zero-requires : tie.Need-u32-or-zero-requires Inv-loop μ-loop
-u32-or-zero-requires c κs = search needs
-
-put-u32-requires : tie.Need-put-u32-requires Inv-loop μ-loop
-put-u32-requires c κs = search needs
 
 add-done : tie.Need-add-done Inv-loop μ-loop
 add-done c =
@@ -106,7 +94,7 @@ put-spec =
     (tie.spec
     Inv-loop
     μ-loop
-    encoded-length-requires
+    (λ c κs. search needs)
     loop-holds
     add-put-u32
     add-put-u32-2
@@ -114,9 +102,9 @@ put-spec =
     sub-put-u32
     part-put-u32-start
     part-put-u32-end
-    slice-aggregate-u32-or-zero
-    u32-or-zero-requires
-    put-u32-requires
+    (λ c. search needs)
+    (λ c κs. search needs)
+    (λ c κs. search needs)
     add-done
     loop-less
     loop-again

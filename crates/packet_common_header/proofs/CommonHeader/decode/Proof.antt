@@ -8,37 +8,19 @@ use borrow.Author.Needs.{needs}
 use Rattle.packet_common_header.proofs.CommonHeader.decode.Statement.{statement}
 use Rattle.packet_common_header.proofs.CommonHeader.decode.Tie as tie
 
-refused-requires : tie.Need-refused-requires
-refused-requires c κs = search needs
-
 returns : tie.Need-returns
 unfolding readCommon
 returns c = rw (eq-eqb _ _ (c .before .if1 .taken)) (c .refused .ensures)
 
-shared-slice-read-version : tie.Need-shared-slice-read-version
-shared-slice-read-version c = search needs
-
-refused-requires-2 : tie.Need-refused-requires-2
-refused-requires-2 c κs = search needs
-
 returns-2 : tie.Need-returns-2
 unfolding readCommon
 returns-2 c = rw (ne-eqb _ _ (c .before .before .before .if1 .left), ne-eqb _ _ (c .before .if2 .taken)) (c .refused2 .ensures)
-
-refused-requires-3 : tie.Need-refused-requires-3
-refused-requires-3 c κs = search needs
 
 returns-3 : tie.Need-returns-3
 unfolding readCommon
 returns-3 c =
     let version = c .before .before in
     rw (ne-eqb _ _ (version .before .before .if1 .left), eq-eqb _ _ (version .if2 .left), lt-leb _ _ (c .before .if3 .taken)) (c .refused3 .ensures)
-
-shared-slice-read-factor : tie.Need-shared-slice-read-factor
-shared-slice-read-factor c = search needs
-
-refused-requires-4 : tie.Need-refused-requires-4
-refused-requires-4 c κs = search needs
 
 returns-4 : tie.Need-returns-4
 unfolding readCommon
@@ -52,30 +34,6 @@ returns-4 c =
       lt-leb _ _ (c .before .if4 .taken),
     )
     (c .refused4 .ensures)
-
-u32-or-zero-requires : tie.Need-u32-or-zero-requires
-u32-or-zero-requires c κs = search needs
-
-u16-or-zero-requires : tie.Need-u16-or-zero-requires
-u16-or-zero-requires c κs = search needs
-
-u16-or-zero-requires-2 : tie.Need-u16-or-zero-requires-2
-u16-or-zero-requires-2 c κs = search needs
-
-shared-slice-read-kinds : tie.Need-shared-slice-read-kinds
-shared-slice-read-kinds c = search needs
-
-cast-t12 : tie.Need-cast-t12
-cast-t12 c = search needs
-
-cast-t23 : tie.Need-cast-t23
-cast-t23 c = search needs
-
-shared-slice-read-t26 : tie.Need-shared-slice-read-t26
-shared-slice-read-t26 c = search needs
-
-shared-slice-read-t28 : tie.Need-shared-slice-read-t28
-shared-slice-read-t28 c = search needs
 
 returns-5 : tie.Need-returns-5
 unfolding readCommon commonAt commonAnswer
@@ -104,22 +62,22 @@ pub decode-spec : {M : Type 1} → statement M
 decode-spec =
     tie.close
     (tie.spec
-    refused-requires
+    (λ c κs. search needs)
     returns
-    shared-slice-read-version
-    refused-requires-2
+    (λ c. search needs)
+    (λ c κs. search needs)
     returns-2
-    refused-requires-3
+    (λ c κs. search needs)
     returns-3
-    shared-slice-read-factor
-    refused-requires-4
+    (λ c. search needs)
+    (λ c κs. search needs)
     returns-4
-    u32-or-zero-requires
-    u16-or-zero-requires
-    u16-or-zero-requires-2
-    shared-slice-read-kinds
-    cast-t12
-    cast-t23
-    shared-slice-read-t26
-    shared-slice-read-t28
+    (λ c κs. search needs)
+    (λ c κs. search needs)
+    (λ c κs. search needs)
+    (λ c. search needs)
+    (λ c. search needs)
+    (λ c. search needs)
+    (λ c. search needs)
+    (λ c. search needs)
     returns-5)

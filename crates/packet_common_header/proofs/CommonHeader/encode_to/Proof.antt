@@ -8,21 +8,11 @@ use Rattle.errors.specs.Errors.{encodedOf}
 use Rattle.errors.proofs.Errors.{written}
 use Rattle.wire_encoding.proofs.Writes.{placed-whole}
 use Rattle.packet_common_header.specs.CommonHeader.{commonFits, commonBytes, writeCommon}
-use Rattle.packet_common_header.proofs.CommonHeaderLaws.{
-  length-commonBytes,
-  Widths,
-  common-widths,
-  common-written,
-  Fields,
-  first-fits,
-  common-digits,
-}
+use Rattle.packet_common_header.proofs.CommonHeaderLaws.{length-commonBytes, Widths, common-widths, common-written, Fields, first-fits}
+use Rattle.packet_common_header.proofs.CommonHeaderLaws.{common-digits}
 use borrow.Author.Needs.{needs}
 use Rattle.packet_common_header.proofs.CommonHeader.encode_to.Statement.{statement}
 use Rattle.packet_common_header.proofs.CommonHeader.encode_to.Tie as tie
-
-fields-fit-requires : tie.Need-fields-fit-requires
-fields-fit-requires c κs = search needs
 
 returns : tie.Need-returns
 unfolding writeCommon commonFits encodedOf
@@ -40,18 +30,6 @@ returns-2 c = rw (fits (c .before .before), eq-eqb _ _ (c .if2 .taken)) (refl, r
 returns-3 : tie.Need-returns-3
 unfolding writeCommon encodedOf
 returns-3 c = rw (fits (c .before .before .before), ne-eqb _ _ (c .before .if2 .left), ne-eqb _ _ (c .if3 .taken)) (refl, refl)
-
-cast-first : tie.Need-cast-first
-cast-first c = search needs
-
-mul-first : tie.Need-mul-first
-mul-first c = search needs
-
-cast-first-2 : tie.Need-cast-first-2
-cast-first-2 c = search needs
-
-add-first : tie.Need-add-first
-add-first c = search needs
 
 -- every field fits its bits: those that were tested, and the others by their types
 typed : (c : tie.Start) → Widths (c .args .self) → Fields (c .args .self)
@@ -72,41 +50,11 @@ add-first-2 c = omega (arith, first-fits _ (fields (c .before .before)))
 cast-t19 : tie.Need-cast-t19
 cast-t19 c = let w = fields (c .before .before) .widths in omega (arith, w .version, w .flow)
 
-cast-t20 : tie.Need-cast-t20
-cast-t20 c = search needs
-
-cast-t21 : tie.Need-cast-t21
-cast-t21 c = search needs
-
-cast-t23 : tie.Need-cast-t23
-cast-t23 c = search needs
-
-cast-t25 : tie.Need-cast-t25
-cast-t25 c = search needs
-
-cast-t27 : tie.Need-cast-t27
-cast-t27 c = search needs
-
 mul-t28 : tie.Need-mul-t28
 mul-t28 c = omega (arith, fields (c .before .before .before) .widths .destination)
 
 add-t29 : tie.Need-add-t29
 add-t29 c = let w = fields (c .before .before .before .before) .widths in omega (arith, w .destination, w .source)
-
-cast-t31 : tie.Need-cast-t31
-cast-t31 c = search needs
-
-cast-t33 : tie.Need-cast-t33
-cast-t33 c = search needs
-
-slice-aggregate-put-slice : tie.Need-slice-aggregate-put-slice
-slice-aggregate-put-slice c = search needs
-
-put-slice-requires : tie.Need-put-slice-requires
-put-slice-requires c κs = search needs
-
-same-length : tie.Need-same-length
-same-length c = search needs
 
 returns-4 : tie.Need-returns-4
 returns-4 c =
@@ -125,27 +73,27 @@ pub encode-to-spec : {M : Type 1} → statement M
 encode-to-spec =
     tie.close
     (tie.spec
-    fields-fit-requires
+    (λ c κs. search needs)
     returns
     returns-2
     returns-3
-    cast-first
-    mul-first
-    cast-first-2
-    add-first
+    (λ c. search needs)
+    (λ c. search needs)
+    (λ c. search needs)
+    (λ c. search needs)
     mul-first-2
     add-first-2
     cast-t19
-    cast-t20
-    cast-t21
-    cast-t23
-    cast-t25
-    cast-t27
+    (λ c. search needs)
+    (λ c. search needs)
+    (λ c. search needs)
+    (λ c. search needs)
+    (λ c. search needs)
     mul-t28
     add-t29
-    cast-t31
-    cast-t33
-    slice-aggregate-put-slice
-    put-slice-requires
-    same-length
+    (λ c. search needs)
+    (λ c. search needs)
+    (λ c. search needs)
+    (λ c κs. search needs)
+    (λ c. search needs)
     returns-4)

@@ -2,13 +2,8 @@
 use native.Mathlib.Omega.{arith}
 use Rattle.packet_common_header.specs.CommonHeader.{remainingHeaderLength}
 use borrow.Author.Needs.{needs}
-use Rattle.packet_common_header.proofs.CommonHeader.remaining_header_length.Statement.{
-  statement,
-}
+use Rattle.packet_common_header.proofs.CommonHeader.remaining_header_length.Statement.{statement}
 use Rattle.packet_common_header.proofs.CommonHeader.remaining_header_length.Tie as tie
-
-header-length-requires : tie.Need-header-length-requires
-header-length-requires c κs = search needs
 
 returns : tie.Need-returns
 unfolding remainingHeaderLength
@@ -19,4 +14,4 @@ unfolding remainingHeaderLength
 returns-2 c = omega arith
 
 pub remaining-header-length-spec : {M : Type 1} → statement M
-remaining-header-length-spec = tie.close (tie.spec header-length-requires returns returns-2)
+remaining-header-length-spec = tie.close (tie.spec (λ c κs. search needs) returns returns-2)

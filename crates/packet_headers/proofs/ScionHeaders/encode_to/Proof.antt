@@ -17,12 +17,6 @@ use borrow.Author.Needs.{needs}
 use Rattle.packet_headers.proofs.ScionHeaders.encode_to.Statement.{statement}
 use Rattle.packet_headers.proofs.ScionHeaders.encode_to.Tie as tie
 
-on-wire-requires : tie.Need-on-wire-requires
-on-wire-requires c κs = search needs
-
-fields-fit-requires : tie.Need-fields-fit-requires
-fields-fit-requires c κs = search needs
-
 abbrev start : tie.After-on-wire → tie.Start
 start c = c .before .before .before
 
@@ -54,18 +48,6 @@ returns-4 c =
     let factor = c .before .before in
     let some = factor .before .before in
     rw (fit (some .before .before), ne-eqb _ _ (some .if2 .left), le-leb _ _ (factor .if3 .left), lt-leb _ _ (c .if4 .taken)) (refl, refl)
-
-encoded-length-requires : tie.Need-encoded-length-requires
-encoded-length-requires c κs = search needs
-
-add-fixed : tie.Need-add-fixed
-add-fixed c = search needs
-
-path-length-requires : tie.Need-path-length-requires
-path-length-requires c κs = search needs
-
-fills-requires : tie.Need-fills-requires
-fills-requires c κs = search needs
 
 abbrev on-wire : tie.Else4 → tie.After-on-wire
 on-wire c =
@@ -104,35 +86,11 @@ returns-5 c =
     )
     (refl, refl)
 
-cast-t16 : tie.Need-cast-t16
-cast-t16 c = search needs
-
-cast-t17 : tie.Need-cast-t17
-cast-t17 c = search needs
-
-put-requires : tie.Need-put-requires
-put-requires c κs = search needs
-
-sub-encode-to : tie.Need-sub-encode-to
-sub-encode-to c = search needs
-
-part-encode-to-start : tie.Need-part-encode-to-start
-part-encode-to-start c = search needs
-
 part-encode-to-end : tie.Need-part-encode-to-end
 unfolding headersLength
 part-encode-to-end c =
     let common = c .before .before .before .before in
     omega (arith, exact (common .before .before))
-
-encode-to-requires : tie.Need-encode-to-requires
-encode-to-requires c κs = search needs
-
-sub-put-slice : tie.Need-sub-put-slice
-sub-put-slice c = search needs
-
-part-put-slice-start : tie.Need-part-put-slice-start
-part-put-slice-start c = search needs
 
 part-put-slice-end : tie.Need-part-put-slice-end
 part-put-slice-end c =
@@ -142,12 +100,6 @@ part-put-slice-end c =
     let added = tested .before .before in
     let args = start (on-wire (added .before .before)) .args in
     omega (arith, added .path-length .ensures, added-few (args .self .«path_type») (length (args .path .now)))
-
-put-slice-requires : tie.Need-put-slice-requires
-put-slice-requires c κs = search needs
-
-same-length : tie.Need-same-length
-same-length c = search needs
 
 -- the arrays beside the hosts
 both-sixteen : (c : tie.Start) → Sixteen (c .args .self .address)
@@ -179,27 +131,27 @@ pub encode-to-spec : {M : Type 1} → statement M
 encode-to-spec =
     tie.close
     (tie.spec
-    on-wire-requires
-    fields-fit-requires
+    (λ c κs. search needs)
+    (λ c κs. search needs)
     returns
     returns-2
     returns-3
     returns-4
-    encoded-length-requires
-    add-fixed
-    path-length-requires
-    fills-requires
+    (λ c κs. search needs)
+    (λ c. search needs)
+    (λ c κs. search needs)
+    (λ c κs. search needs)
     returns-5
-    cast-t16
-    cast-t17
-    put-requires
-    sub-encode-to
-    part-encode-to-start
+    (λ c. search needs)
+    (λ c. search needs)
+    (λ c κs. search needs)
+    (λ c. search needs)
+    (λ c. search needs)
     part-encode-to-end
-    encode-to-requires
-    sub-put-slice
-    part-put-slice-start
+    (λ c κs. search needs)
+    (λ c. search needs)
+    (λ c. search needs)
     part-put-slice-end
-    put-slice-requires
-    same-length
+    (λ c κs. search needs)
+    (λ c. search needs)
     returns-6)

@@ -5,21 +5,6 @@ use borrow.Author.Needs.{needs}
 use Rattle.packet_headers.proofs.ScionHeaders.encoded_length.Statement.{statement}
 use Rattle.packet_headers.proofs.ScionHeaders.encoded_length.Tie as tie
 
-encoded-length-requires : tie.Need-encoded-length-requires
-encoded-length-requires c κs = search needs
-
-add-fixed : tie.Need-add-fixed
-add-fixed c = search needs
-
-path-length-requires : tie.Need-path-length-requires
-path-length-requires c κs = search needs
-
-sub-if1 : tie.Need-sub-if1
-sub-if1 c = search needs
-
-add-result : tie.Need-add-result
-add-result c = search needs
-
 returns : tie.Need-returns
 unfolding encodedLength headersLength
 returns c = omega (arith, c .before .before .encoded-length .ensures .0, c .before .path-length .ensures, c .if1 .taken)
@@ -32,10 +17,10 @@ pub encoded-length-spec : {M : Type 1} → statement M
 encoded-length-spec =
     tie.close
     (tie.spec
-    encoded-length-requires
-    add-fixed
-    path-length-requires
-    sub-if1
-    add-result
+    (λ c κs. search needs)
+    (λ c. search needs)
+    (λ c κs. search needs)
+    (λ c. search needs)
+    (λ c. search needs)
     returns
     returns-2)

@@ -5,18 +5,6 @@ use borrow.Author.Needs.{needs}
 use Rattle.packet_headers.proofs.ScionHeaders.new.Statement.{statement}
 use Rattle.packet_headers.proofs.ScionHeaders.new.Tie as tie
 
-encoded-length-requires : tie.Need-encoded-length-requires
-encoded-length-requires c κs = search needs
-
-add-fixed : tie.Need-add-fixed
-add-fixed c = search needs
-
-path-length-requires : tie.Need-path-length-requires
-path-length-requires c κs = search needs
-
-add-t11 : tie.Need-add-t11
-add-t11 c = search needs
-
 returns : tie.Need-returns
 unfolding newHeaders
 returns c =
@@ -25,4 +13,4 @@ returns c =
 
 pub new-spec : {M : Type 1} → statement M
 new-spec =
-    tie.close (tie.spec encoded-length-requires add-fixed path-length-requires add-t11 returns)
+    tie.close (tie.spec (λ c κs. search needs) (λ c. search needs) (λ c κs. search needs) (λ c. search needs) returns)

@@ -3,9 +3,6 @@ use borrow.Author.Needs.{needs}
 use Rattle.path_interfaces.proofs.InterfaceCount.of.Statement.{statement}
 use Rattle.path_interfaces.proofs.InterfaceCount.of.Tie as tie
 
-interfaces-count-requires : tie.Need-interfaces-count-requires
-interfaces-count-requires c κs = search needs
-
 returns : tie.Need-returns
 returns c = rw (c .interfaces-count .ensures .0)
 
@@ -13,5 +10,5 @@ pub of-spec : {M : Type 1} → statement M
 of-spec =
     tie.close
     (tie.spec
-    interfaces-count-requires
+    (λ c κs. search needs)
     returns)

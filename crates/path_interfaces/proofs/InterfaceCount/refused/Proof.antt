@@ -4,12 +4,9 @@ use borrow.Author.Needs.{needs}
 use Rattle.path_interfaces.proofs.InterfaceCount.refused.Statement.{statement}
 use Rattle.path_interfaces.proofs.InterfaceCount.refused.Tie as tie
 
-zero-requires : tie.Need-zero-requires
-zero-requires c κs = search needs
-
 returns : tie.Need-returns
 unfolding spec.interfaceCount
 returns c = rw (c .zero .ensures)
 
 pub refused-spec : {M : Type 1} → statement M
-refused-spec = tie.close (tie.spec zero-requires returns)
+refused-spec = tie.close (tie.spec (λ c κs. search needs) returns)

@@ -4,12 +4,9 @@ use borrow.Author.Needs.{needs}
 use Rattle.path_meta_header.proofs.MetaRead.refused.Statement.{statement}
 use Rattle.path_meta_header.proofs.MetaRead.refused.Tie as tie
 
-from-u32-requires : tie.Need-from-u32-requires
-from-u32-requires c κs = search needs
-
 returns : tie.Need-returns
 unfolding metaRead
 returns c = rw (c .from-u32 .ensures)
 
 pub refused-spec : {M : Type 1} → statement M
-refused-spec = tie.close (tie.spec from-u32-requires returns)
+refused-spec = tie.close (tie.spec (λ c κs. search needs) returns)

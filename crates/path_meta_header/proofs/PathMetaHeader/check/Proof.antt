@@ -15,34 +15,16 @@ lengths c = sym (c .before .lengths-valid .ensures) ∙ not-false _ (c .if1 .lef
 info : (c : tie.Else2) → infoValid (c .before .before .before .before .args .self) ≡ true
 info c = sym (c .before .info-valid .ensures) ∙ not-false _ (c .if2 .left)
 
-lengths-valid-requires : tie.Need-lengths-valid-requires
-lengths-valid-requires c κs = search needs
-
-invalid-requires : tie.Need-invalid-requires
-invalid-requires c κs = search needs
-
 returns : tie.Need-returns
 returns c =
     let test = c .before in
     rw (wrong-lengths _ (sym (test .before .lengths-valid .ensures) ∙ not-true _ (test .if1 .taken))) (c .invalid .ensures)
-
-info-valid-requires : tie.Need-info-valid-requires
-info-valid-requires c κs = search needs
-
-invalid-requires-2 : tie.Need-invalid-requires-2
-invalid-requires-2 c κs = search needs
 
 returns-2 : tie.Need-returns-2
 unfolding checked
 returns-2 c =
     let test = c .before in
     rw (lengths (test .before .before), sym (test .before .info-valid .ensures) ∙ not-true _ (test .if2 .taken)) (c .invalid2 .ensures)
-
-hop-valid-requires : tie.Need-hop-valid-requires
-hop-valid-requires c κs = search needs
-
-invalid-requires-3 : tie.Need-invalid-requires-3
-invalid-requires-3 c κs = search needs
 
 returns-3 : tie.Need-returns-3
 unfolding checked
@@ -61,13 +43,13 @@ pub check-spec : {M : Type 1} → statement M
 check-spec =
     tie.close
     (tie.spec
-    lengths-valid-requires
-    invalid-requires
+    (λ c κs. search needs)
+    (λ c κs. search needs)
     returns
-    info-valid-requires
-    invalid-requires-2
+    (λ c κs. search needs)
+    (λ c κs. search needs)
     returns-2
-    hop-valid-requires
-    invalid-requires-3
+    (λ c κs. search needs)
+    (λ c κs. search needs)
     returns-3
     returns-4)

@@ -2,16 +2,8 @@
 use mathlib.Core.Path.{ap, _∙_}
 use Rattle.path_meta_header.specs.MetaHeader as spec
 use borrow.Author.Needs.{needs}
-use Rattle.path_meta_header.proofs.PathMetaHeader.computed_info_field_index.Statement.{
-  statement,
-}
+use Rattle.path_meta_header.proofs.PathMetaHeader.computed_info_field_index.Statement.{statement}
 use Rattle.path_meta_header.proofs.PathMetaHeader.computed_info_field_index.Tie as tie
-
-wide-requires : tie.Need-wide-requires
-wide-requires c κs = search needs
-
-segment-of-requires : tie.Need-segment-of-requires
-segment-of-requires c κs = search needs
 
 returns : tie.Need-returns
 returns c = (
@@ -20,4 +12,4 @@ returns c = (
 )
 
 pub computed-info-field-index-spec : {M : Type 1} → statement M
-computed-info-field-index-spec = tie.close (tie.spec wide-requires segment-of-requires returns)
+computed-info-field-index-spec = tie.close (tie.spec (λ c κs. search needs) (λ c κs. search needs) returns)

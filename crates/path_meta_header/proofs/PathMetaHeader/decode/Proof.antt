@@ -5,24 +5,6 @@ use borrow.Author.Needs.{needs}
 use Rattle.path_meta_header.proofs.PathMetaHeader.decode.Statement.{statement}
 use Rattle.path_meta_header.proofs.PathMetaHeader.decode.Tie as tie
 
-get-u32-requires : tie.Need-get-u32-requires
-get-u32-requires c κs = search needs
-
-enum-known-fields : tie.Need-enum-known-fields
-enum-known-fields c = search needs
-
-from-u32-requires : tie.Need-from-u32-requires
-from-u32-requires c κs = search needs
-
-check-requires : tie.Need-check-requires
-check-requires c κs = search needs
-
-enum-told : tie.Need-enum-told
-enum-told c = search needs
-
-refused-requires : tie.Need-refused-requires
-refused-requires c κs = search needs
-
 returns : tie.Need-returns
 unfolding readMeta
 returns c =
@@ -37,11 +19,11 @@ pub decode-spec : {M : Type 1} → statement M
 decode-spec =
     tie.close
     (tie.spec
-    get-u32-requires
-    enum-known-fields
-    from-u32-requires
-    check-requires
-    enum-told
-    refused-requires
+    (λ c κs. search needs)
+    (λ c. search needs)
+    (λ c κs. search needs)
+    (λ c κs. search needs)
+    (λ c. search needs)
+    (λ c κs. search needs)
     returns
     returns-2)

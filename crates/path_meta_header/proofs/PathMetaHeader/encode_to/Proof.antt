@@ -12,18 +12,6 @@ use borrow.Author.Needs.{needs}
 use Rattle.path_meta_header.proofs.PathMetaHeader.encode_to.Statement.{statement}
 use Rattle.path_meta_header.proofs.PathMetaHeader.encode_to.Tie as tie
 
-as-u32-requires : tie.Need-as-u32-requires
-as-u32-requires c κs = search needs
-
-enum-known-number : tie.Need-enum-known-number
-enum-known-number c = search needs
-
-put-u32-requires : tie.Need-put-u32-requires
-put-u32-requires c κs = search needs
-
-same-length : tie.Need-same-length
-same-length c = search needs
-
 returns : tie.Need-returns
 returns c =
     let test = c .before .before .before .before in
@@ -33,9 +21,6 @@ returns c =
     let size = test .if1 .taken in
     written _ _ (meta-written m _ (known .0) size)
     (rw (known .1) at (c .before .before .put-u32 .ensures .1) ∙ placed-whole (bytesOf 4 (wordOf m)) _ (length-bytesOf 4 (wordOf m) ∙ sym size))
-
-enum-told : tie.Need-enum-told
-enum-told c = search needs
 
 returns-2 : tie.Need-returns-2
 unfolding writeMeta encodedOf
@@ -55,11 +40,11 @@ pub encode-to-spec : {M : Type 1} → statement M
 encode-to-spec =
     tie.close
     (tie.spec
-    as-u32-requires
-    enum-known-number
-    put-u32-requires
-    same-length
+    (λ c κs. search needs)
+    (λ c. search needs)
+    (λ c κs. search needs)
+    (λ c. search needs)
     returns
-    enum-told
+    (λ c. search needs)
     returns-2
     returns-3)

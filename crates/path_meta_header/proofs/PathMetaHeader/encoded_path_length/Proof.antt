@@ -5,18 +5,6 @@ use borrow.Author.Needs.{needs}
 use Rattle.path_meta_header.proofs.PathMetaHeader.encoded_path_length.Statement.{statement}
 use Rattle.path_meta_header.proofs.PathMetaHeader.encoded_path_length.Tie as tie
 
-hop-fields-start-requires : tie.Need-hop-fields-start-requires
-hop-fields-start-requires c κs = search needs
-
-hop-fields-count-requires : tie.Need-hop-fields-count-requires
-hop-fields-count-requires c κs = search needs
-
-mul-result : tie.Need-mul-result
-mul-result c = search needs
-
-add-result : tie.Need-add-result
-add-result c = search needs
-
 returns : tie.Need-returns
 unfolding spec.pathLength
 returns c = omega arith
@@ -24,4 +12,4 @@ returns c = omega arith
 pub encoded-path-length-spec : {M : Type 1} → statement M
 encoded-path-length-spec =
     tie.close
-    (tie.spec hop-fields-start-requires hop-fields-count-requires mul-result add-result returns)
+    (tie.spec (λ c κs. search needs) (λ c κs. search needs) (λ c. search needs) (λ c. search needs) returns)

@@ -18,22 +18,13 @@ reserved : (c : tie.Else3) → let first = c .before .before .before .before in 
     ≡ true
 reserved c = sym (c .before .fits-62 .ensures) ∙ not-false _ (c .if3 .left)
 
-fits-2-requires : tie.Need-fits-2-requires
-fits-2-requires c κs = search needs
-
 returns : tie.Need-returns
 unfolding encoding.metaFits
 returns c = rw (sym (c .before .fits-2 .ensures) ∙ not-true _ (c .if1 .taken))
 
-fits-6-requires : tie.Need-fits-6-requires
-fits-6-requires c κs = search needs
-
 returns-2 : tie.Need-returns-2
 unfolding encoding.metaFits
 returns-2 c = rw (info (c .before .before), sym (c .before .fits-6 .ensures) ∙ not-true _ (c .if2 .taken))
-
-fits-6-requires-2 : tie.Need-fits-6-requires-2
-fits-6-requires-2 c κs = search needs
 
 returns-3 : tie.Need-returns-3
 unfolding encoding.metaFits
@@ -41,24 +32,12 @@ returns-3 c =
     let second = c .before .before in
     rw (info (second .before .before), hop second, sym (c .before .fits-62 .ensures) ∙ not-true _ (c .if3 .taken))
 
-array-read-fits-6 : tie.Need-array-read-fits-6
-array-read-fits-6 c = search needs
-
-fits-6-requires-3 : tie.Need-fits-6-requires-3
-fits-6-requires-3 c κs = search needs
-
 returns-4 : tie.Need-returns-4
 unfolding encoding.metaFits
 returns-4 c =
     let third = c .before .before in
     let second = third .before .before in
     rw (info (second .before .before), hop second, reserved third, sym (c .before .fits-63 .ensures) ∙ not-true _ (c .if4 .taken))
-
-array-read-fits-6-2 : tie.Need-array-read-fits-6-2
-array-read-fits-6-2 c = search needs
-
-fits-6-requires-4 : tie.Need-fits-6-requires-4
-fits-6-requires-4 c κs = search needs
 
 returns-5 : tie.Need-returns-5
 unfolding encoding.metaFits
@@ -68,12 +47,6 @@ returns-5 c =
     let second = third .before .before in
     let length = sym (fourth .before .fits-63 .ensures) ∙ not-false _ (fourth .if4 .left) in
     rw (info (second .before .before), hop second, reserved third, length, sym (c .before .fits-64 .ensures) ∙ not-true _ (c .if5 .taken))
-
-array-read-fits-6-3 : tie.Need-array-read-fits-6-3
-array-read-fits-6-3 c = search needs
-
-fits-6-requires-5 : tie.Need-fits-6-requires-5
-fits-6-requires-5 c κs = search needs
 
 returns-6 : tie.Need-returns-6
 unfolding encoding.metaFits
@@ -90,18 +63,18 @@ pub fields-fit-spec : {M : Type 1} → statement M
 fields-fit-spec =
     tie.close
     (tie.spec
-    fits-2-requires
+    (λ c κs. search needs)
     returns
-    fits-6-requires
+    (λ c κs. search needs)
     returns-2
-    fits-6-requires-2
+    (λ c κs. search needs)
     returns-3
-    array-read-fits-6
-    fits-6-requires-3
+    (λ c. search needs)
+    (λ c κs. search needs)
     returns-4
-    array-read-fits-6-2
-    fits-6-requires-4
+    (λ c. search needs)
+    (λ c κs. search needs)
     returns-5
-    array-read-fits-6-3
-    fits-6-requires-5
+    (λ c. search needs)
+    (λ c κs. search needs)
     returns-6)

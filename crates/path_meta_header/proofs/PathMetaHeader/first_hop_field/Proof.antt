@@ -11,28 +11,13 @@ returns : tie.Need-returns
 unfolding spec.firstHopField
 returns c = (rw (c .if1 .taken), omega arith)
 
-segment-length-requires : tie.Need-segment-length-requires
-segment-length-requires c κs = search needs
-
 returns-2 : tie.Need-returns-2
 unfolding spec.firstHopField
 returns-2 c = (rw (c .before .if2 .taken) (omega arith), omega arith)
 
-segment-length-requires-2 : tie.Need-segment-length-requires-2
-segment-length-requires-2 c κs = search needs
-
-segment-length-requires-3 : tie.Need-segment-length-requires-3
-segment-length-requires-3 c κs = search needs
-
-add-result : tie.Need-add-result
-add-result c = search needs
-
 returns-3 : tie.Need-returns-3
 unfolding spec.firstHopField
 returns-3 c = (rw (c .before .before .if3 .taken) (omega arith), omega arith)
-
-hop-fields-count-requires : tie.Need-hop-fields-count-requires
-hop-fields-count-requires c κs = search needs
 
 returns-4 : tie.Need-returns-4
 returns-4 c =
@@ -44,11 +29,11 @@ first-hop-field-spec =
     tie.close
     (tie.spec
     returns
-    segment-length-requires
+    (λ c κs. search needs)
     returns-2
-    segment-length-requires-2
-    segment-length-requires-3
-    add-result
+    (λ c κs. search needs)
+    (λ c κs. search needs)
+    (λ c. search needs)
     returns-3
-    hop-fields-count-requires
+    (λ c κs. search needs)
     returns-4)

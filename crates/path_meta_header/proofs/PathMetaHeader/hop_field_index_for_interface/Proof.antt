@@ -7,24 +7,12 @@ use borrow.Author.Needs.{needs}
 use Rattle.path_meta_header.proofs.PathMetaHeader.hop_field_index_for_interface.Statement.{statement}
 use Rattle.path_meta_header.proofs.PathMetaHeader.hop_field_index_for_interface.Tie as tie
 
-interfaces-count-requires : tie.Need-interfaces-count-requires
-interfaces-count-requires c κs = search needs
-
 returns : tie.Need-returns
 unfolding spec.hopFieldOf
 returns c =
     let a = c .before .before .args in
     let outside : spec.interfacesCount (a .self) ≤ a .index = omega arith in
     rw (le-ltb _ _ outside)
-
-add-t6 : tie.Need-add-t6
-add-t6 c = search needs
-
-segment-of-link-requires : tie.Need-segment-of-link-requires
-segment-of-link-requires c κs = search needs
-
-add-t8 : tie.Need-add-t8
-add-t8 c = search needs
 
 returns-2 : tie.Need-returns-2
 unfolding spec.hopFieldOf
@@ -37,9 +25,9 @@ pub hop-field-index-for-interface-spec : {M : Type 1} → statement M
 hop-field-index-for-interface-spec =
     tie.close
     (tie.spec
-    interfaces-count-requires
+    (λ c κs. search needs)
     returns
-    add-t6
-    segment-of-link-requires
-    add-t8
+    (λ c. search needs)
+    (λ c κs. search needs)
+    (λ c. search needs)
     returns-2)

@@ -7,18 +7,6 @@ use borrow.Author.Needs.{needs}
 use Rattle.path_meta_header.proofs.PathMetaHeader.hop_field_offset.Statement.{statement}
 use Rattle.path_meta_header.proofs.PathMetaHeader.hop_field_offset.Tie as tie
 
-hop-fields-count-requires : tie.Need-hop-fields-count-requires
-hop-fields-count-requires c κs = search needs
-
-hop-fields-start-requires : tie.Need-hop-fields-start-requires
-hop-fields-start-requires c κs = search needs
-
-mul-t6 : tie.Need-mul-t6
-mul-t6 c = search needs
-
-add-t7 : tie.Need-add-t7
-add-t7 c = search needs
-
 returns : tie.Need-returns
 unfolding spec.hopFieldOffset
 returns c =
@@ -36,4 +24,4 @@ returns-2 c =
 pub hop-field-offset-spec : {M : Type 1} → statement M
 hop-field-offset-spec =
     tie.close
-    (tie.spec hop-fields-count-requires hop-fields-start-requires mul-t6 add-t7 returns returns-2)
+    (tie.spec (λ c κs. search needs) (λ c κs. search needs) (λ c. search needs) (λ c. search needs) returns returns-2)

@@ -7,24 +7,12 @@ use borrow.Author.Needs.{needs}
 use Rattle.path_meta_header.proofs.PathMetaHeader.hop_valid.Statement.{statement}
 use Rattle.path_meta_header.proofs.PathMetaHeader.hop_valid.Tie as tie
 
-wide-requires : tie.Need-wide-requires
-wide-requires c κs = search needs
-
-hop-fields-count-requires : tie.Need-hop-fields-count-requires
-hop-fields-count-requires c κs = search needs
-
 returns : tie.Need-returns
 unfolding spec.hopValid
 returns c =
     let m = c .before .before .before .args .self in
     let h : spec.hopFieldsCount m ≤ m .«current_hop_field» = omega arith in
     rw (le-ltb _ _ h)
-
-computed-info-field-index-requires : tie.Need-computed-info-field-index-requires
-computed-info-field-index-requires c κs = search needs
-
-wide-requires-2 : tie.Need-wide-requires-2
-wide-requires-2 c κs = search needs
 
 returns-2 : tie.Need-returns-2
 unfolding spec.hopValid
@@ -37,9 +25,9 @@ pub hop-valid-spec : {M : Type 1} → statement M
 hop-valid-spec =
     tie.close
     (tie.spec
-    wide-requires
-    hop-fields-count-requires
+    (λ c κs. search needs)
+    (λ c κs. search needs)
     returns
-    computed-info-field-index-requires
-    wide-requires-2
+    (λ c κs. search needs)
+    (λ c κs. search needs)
     returns-2)

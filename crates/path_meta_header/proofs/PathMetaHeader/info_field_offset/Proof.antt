@@ -4,19 +4,8 @@ use borrow.Author.Tests.{lt-ltb, le-ltb}
 use Prim.Native.Nat.{_<_, _≤_}
 use Rattle.path_meta_header.specs.MetaHeader as spec
 use borrow.Author.Needs.{needs}
-use Rattle.path_meta_header.proofs.PathMetaHeader.info_field_offset.Statement.{
-  statement,
-}
+use Rattle.path_meta_header.proofs.PathMetaHeader.info_field_offset.Statement.{statement}
 use Rattle.path_meta_header.proofs.PathMetaHeader.info_field_offset.Tie as tie
-
-info-fields-count-requires : tie.Need-info-fields-count-requires
-info-fields-count-requires c κs = search needs
-
-mul-t5 : tie.Need-mul-t5
-mul-t5 c = search needs
-
-add-t6 : tie.Need-add-t6
-add-t6 c = search needs
 
 returns : tie.Need-returns
 unfolding spec.infoFieldOffset
@@ -28,4 +17,4 @@ returns-2 c = let h : spec.infoFieldsCount (c .before .before .args .self) ≤ c
 
 pub info-field-offset-spec : {M : Type 1} → statement M
 info-field-offset-spec =
-    tie.close (tie.spec info-fields-count-requires mul-t5 add-t6 returns returns-2)
+    tie.close (tie.spec (λ c κs. search needs) (λ c. search needs) (λ c. search needs) returns returns-2)

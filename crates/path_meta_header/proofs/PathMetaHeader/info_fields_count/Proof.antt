@@ -3,27 +3,16 @@ use native.Mathlib.Omega.{arith}
 use borrow.Author.Tests.{eq-eqb, ne-eqb}
 use Rattle.path_meta_header.specs.MetaHeader as spec
 use borrow.Author.Needs.{needs}
-use Rattle.path_meta_header.proofs.PathMetaHeader.info_fields_count.Statement.{
-  statement,
-}
+use Rattle.path_meta_header.proofs.PathMetaHeader.info_fields_count.Statement.{statement}
 use Rattle.path_meta_header.proofs.PathMetaHeader.info_fields_count.Tie as tie
-
-array-read-if1 : tie.Need-array-read-if1
-array-read-if1 c = search needs
 
 returns : tie.Need-returns
 unfolding spec.infoFieldsCount
 returns c = (simp (eq-eqb _ _ (c .if1 .taken)), omega arith)
 
-array-read-if2 : tie.Need-array-read-if2
-array-read-if2 c = search needs
-
 returns-2 : tie.Need-returns-2
 unfolding spec.infoFieldsCount
 returns-2 c = (simp (ne-eqb _ _ (c .before .if1 .left), eq-eqb _ _ (c .if2 .taken)), omega arith)
-
-array-read-if3 : tie.Need-array-read-if3
-array-read-if3 c = search needs
 
 returns-3 : tie.Need-returns-3
 unfolding spec.infoFieldsCount
@@ -36,4 +25,4 @@ returns-4 c = (simp (ne-eqb _ _ (c .before .before .if1 .left), ne-eqb _ _ (c .b
 pub info-fields-count-spec : {M : Type 1} → statement M
 info-fields-count-spec =
     tie.close
-    (tie.spec array-read-if1 returns array-read-if2 returns-2 array-read-if3 returns-3 returns-4)
+    (tie.spec (λ c. search needs) returns (λ c. search needs) returns-2 (λ c. search needs) returns-3 returns-4)

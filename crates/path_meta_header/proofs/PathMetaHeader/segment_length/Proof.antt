@@ -9,19 +9,10 @@ use Rattle.path_meta_header.proofs.PathMetaHeader.segment_length.Tie as
 three : (c : tie.Start) → length (c .args .self .«segment_lengths») ≡ 3
 three c = search needs
 
-array-read-wide : tie.Need-array-read-wide
-array-read-wide c = search needs
-
-wide-requires : tie.Need-wide-requires
-wide-requires c κs = search needs
-
-returns : tie.Need-returns
-returns c = search needs
-
 returns-2 : tie.Need-returns-2
 returns-2 c =
     let a = c .before .before .args in
     (sym (List·getD-eq-default (a .self .«segment_lengths») 0 (omega (arith, three (c .before .before)))), omega arith)
 
 pub segment-length-spec : {M : Type 1} → statement M
-segment-length-spec = tie.close (tie.spec array-read-wide wide-requires returns returns-2)
+segment-length-spec = tie.close (tie.spec (λ c. search needs) (λ c κs. search needs) (λ c. search needs) returns-2)

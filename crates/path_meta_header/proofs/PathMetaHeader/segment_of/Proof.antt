@@ -7,18 +7,6 @@ use borrow.Author.Needs.{needs}
 use Rattle.path_meta_header.proofs.PathMetaHeader.segment_of.Statement.{statement}
 use Rattle.path_meta_header.proofs.PathMetaHeader.segment_of.Tie as tie
 
-array-read-wide : tie.Need-array-read-wide
-array-read-wide c = search needs
-
-wide-requires : tie.Need-wide-requires
-wide-requires c κs = search needs
-
-array-read-wide-2 : tie.Need-array-read-wide-2
-array-read-wide-2 c = search needs
-
-wide-requires-2 : tie.Need-wide-requires-2
-wide-requires-2 c κs = search needs
-
 returns : tie.Need-returns
 unfolding spec.segmentOf
 returns c =
@@ -26,9 +14,6 @@ returns c =
     let i = c .before .before .before .before .args .index in
     let g : i < spec.segmentLength m 0 = omega arith in
     (simp (lt-ltb _ _ g), omega arith)
-
-add-if2 : tie.Need-add-if2
-add-if2 c = search needs
 
 returns-2 : tie.Need-returns-2
 unfolding spec.segmentOf
@@ -52,11 +37,11 @@ pub segment-of-spec : {M : Type 1} → statement M
 segment-of-spec =
     tie.close
     (tie.spec
-    array-read-wide
-    wide-requires
-    array-read-wide-2
-    wide-requires-2
+    (λ c. search needs)
+    (λ c κs. search needs)
+    (λ c. search needs)
+    (λ c κs. search needs)
     returns
-    add-if2
+    (λ c. search needs)
     returns-2
     returns-3)

@@ -7,21 +7,6 @@ use borrow.Author.Needs.{needs}
 use Rattle.path_meta_header.proofs.PathMetaHeader.segment_of_link.Statement.{statement}
 use Rattle.path_meta_header.proofs.PathMetaHeader.segment_of_link.Tie as tie
 
-array-read-wide : tie.Need-array-read-wide
-array-read-wide c = search needs
-
-wide-requires : tie.Need-wide-requires
-wide-requires c κs = search needs
-
-array-read-wide-2 : tie.Need-array-read-wide-2
-array-read-wide-2 c = search needs
-
-wide-requires-2 : tie.Need-wide-requires-2
-wide-requires-2 c κs = search needs
-
-add-if1 : tie.Need-add-if1
-add-if1 c = search needs
-
 returns : tie.Need-returns
 unfolding spec.segmentOfLink
 returns c =
@@ -29,12 +14,6 @@ returns c =
     let l = c .before .before .before .before .args .link in
     let g : l + 1 < spec.segmentLength m 0 = omega arith in
     (rw (lt-ltb _ _ g), omega arith)
-
-add-if2 : tie.Need-add-if2
-add-if2 c = search needs
-
-add-if2-2 : tie.Need-add-if2-2
-add-if2-2 c = search needs
 
 returns-2 : tie.Need-returns-2
 unfolding spec.segmentOfLink
@@ -58,13 +37,13 @@ pub segment-of-link-spec : {M : Type 1} → statement M
 segment-of-link-spec =
     tie.close
     (tie.spec
-    array-read-wide
-    wide-requires
-    array-read-wide-2
-    wide-requires-2
-    add-if1
+    (λ c. search needs)
+    (λ c κs. search needs)
+    (λ c. search needs)
+    (λ c κs. search needs)
+    (λ c. search needs)
     returns
-    add-if2
-    add-if2-2
+    (λ c. search needs)
+    (λ c. search needs)
     returns-2
     returns-3)

@@ -13,24 +13,6 @@ use Rattle.path_moves.proofs.Moves.{standing-at}
 use Rattle.path_moves.proofs.Position.moved.Statement.{statement}
 use Rattle.path_moves.proofs.Position.moved.Tie as tie
 
-wide-requires : tie.Need-wide-requires
-wide-requires c κs = search needs
-
-wide-requires-2 : tie.Need-wide-requires-2
-wide-requires-2 c κs = search needs
-
-add-segment-of : tie.Need-add-segment-of
-add-segment-of c = search needs
-
-segment-of-requires : tie.Need-segment-of-requires
-segment-of-requires c κs = search needs
-
-cast-t12 : tie.Need-cast-t12
-cast-t12 c = search needs
-
-add-t11 : tie.Need-add-t11
-add-t11 c = search needs
-
 cast-t13 : tie.Need-cast-t13
 cast-t13 c =
     let pre = c .before .before .before .before .pre in
@@ -49,15 +31,6 @@ info-field-at-requires c κs =
     let start = segment .before .before in
     let known = standing-at _ _ (start .pre .0) (start .pre .1) in
     (omega (arith, segment .wide .ensures .0), segment .wide .ensures .1)
-
-owner-of-requires : tie.Need-owner-of-requires
-owner-of-requires c κs = search needs
-
-segment-length-requires : tie.Need-segment-length-requires
-segment-length-requires c κs = search needs
-
-is-spared-requires : tie.Need-is-spared-requires
-is-spared-requires c κs = search needs
 
 -- the info field that was read, and the owner, are the definition's
 info-is : (c : tie.After-info-field-at)
@@ -96,21 +69,6 @@ returns-2 c =
     let hop = inside .before .before in
     rw (taken-is (c .before), c .if2 .taken, ← hop .wide2 .ensures .0, ← inside .before .segment-of .ensures .0)
 
-hop-fields-start-requires : tie.Need-hop-fields-start-requires
-hop-fields-start-requires c κs = search needs
-
-mul-owner-at : tie.Need-mul-owner-at
-mul-owner-at c = search needs
-
-add-owner-at : tie.Need-add-owner-at
-add-owner-at c = search needs
-
-add-u16-or-zero : tie.Need-add-u16-or-zero
-add-u16-or-zero c = search needs
-
-u16-or-zero-requires : tie.Need-u16-or-zero-requires
-u16-or-zero-requires c κs = search needs
-
 returns-3 : tie.Need-returns-3
 unfolding moveFrom changeOf
 returns-3 c =
@@ -135,22 +93,22 @@ pub moved-spec : {M : Type 1} → statement M
 moved-spec =
     tie.close
     (tie.spec
-    wide-requires
-    wide-requires-2
-    add-segment-of
-    segment-of-requires
-    cast-t12
-    add-t11
+    (λ c κs. search needs)
+    (λ c κs. search needs)
+    (λ c. search needs)
+    (λ c κs. search needs)
+    (λ c. search needs)
+    (λ c. search needs)
     cast-t13
     returns
     info-field-at-requires
-    owner-of-requires
-    segment-length-requires
-    is-spared-requires
+    (λ c κs. search needs)
+    (λ c κs. search needs)
+    (λ c κs. search needs)
     returns-2
-    hop-fields-start-requires
-    mul-owner-at
-    add-owner-at
-    add-u16-or-zero
-    u16-or-zero-requires
+    (λ c κs. search needs)
+    (λ c. search needs)
+    (λ c. search needs)
+    (λ c. search needs)
+    (λ c κs. search needs)
     returns-3)

@@ -3,15 +3,9 @@ use borrow.Author.Needs.{needs}
 use Rattle.scion_proto.proofs.packets.scion_read_packet.Statement.{statement}
 use Rattle.scion_proto.proofs.packets.scion_read_packet.Tie as tie
 
-decode-requires : tie.Need-decode-requires
-decode-requires c κs = search needs
-
-packet-out-requires : tie.Need-packet-out-requires
-packet-out-requires c κs = search needs
-
 returns : tie.Need-returns
 returns c = rw (← c .before .decode .ensures) (c .packet-out .ensures)
 
 pub scion-read-packet-spec : {M : Type 1} → statement M
 scion-read-packet-spec =
-    tie.close (tie.spec decode-requires packet-out-requires returns)
+    tie.close (tie.spec (λ c κs. search needs) (λ c κs. search needs) returns)

@@ -3,18 +3,9 @@ use borrow.Author.Needs.{needs}
 use Rattle.scion_proto.proofs.paths.scion_hop_field.Statement.{statement}
 use Rattle.scion_proto.proofs.paths.scion_hop_field.Tie as tie
 
-new-requires : tie.Need-new-requires
-new-requires c κs = search needs
-
-locate-hop-field-requires : tie.Need-locate-hop-field-requires
-locate-hop-field-requires c κs = search needs
-
-hop-field-out-requires : tie.Need-hop-field-out-requires
-hop-field-out-requires c κs = search needs
-
 returns : tie.Need-returns
 returns c = rw (← c .before .before .new .ensures, ← c .before .locate-hop-field .ensures) (c .hop-field-out .ensures)
 
 pub scion-hop-field-spec : {M : Type 1} → statement M
 scion-hop-field-spec =
-    tie.close (tie.spec new-requires locate-hop-field-requires hop-field-out-requires returns)
+    tie.close (tie.spec (λ c κs. search needs) (λ c κs. search needs) (λ c κs. search needs) returns)

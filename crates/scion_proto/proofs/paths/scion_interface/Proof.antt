@@ -3,18 +3,9 @@ use borrow.Author.Needs.{needs}
 use Rattle.scion_proto.proofs.paths.scion_interface.Statement.{statement}
 use Rattle.scion_proto.proofs.paths.scion_interface.Tie as tie
 
-new-requires : tie.Need-new-requires
-new-requires c κs = search needs
-
-interface-requires : tie.Need-interface-requires
-interface-requires c κs = search needs
-
-interface-out-requires : tie.Need-interface-out-requires
-interface-out-requires c κs = search needs
-
 returns : tie.Need-returns
 returns c = rw (← c .before .before .new .ensures, ← c .before .interface .ensures) (c .interface-out .ensures)
 
 pub scion-interface-spec : {M : Type 1} → statement M
 scion-interface-spec =
-    tie.close (tie.spec new-requires interface-requires interface-out-requires returns)
+    tie.close (tie.spec (λ c κs. search needs) (λ c κs. search needs) (λ c κs. search needs) returns)

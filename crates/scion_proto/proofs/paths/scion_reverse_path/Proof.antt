@@ -3,22 +3,10 @@ use borrow.Author.Needs.{needs}
 use Rattle.scion_proto.proofs.paths.scion_reverse_path.Statement.{statement}
 use Rattle.scion_proto.proofs.paths.scion_reverse_path.Tie as tie
 
-new-requires : tie.Need-new-requires
-new-requires c κs = search needs
-
-reverse-to-slice-requires : tie.Need-reverse-to-slice-requires
-reverse-to-slice-requires c κs = search needs
-
-path-answer-out-requires : tie.Need-path-answer-out-requires
-path-answer-out-requires c κs = search needs
-
-same-length : tie.Need-same-length
-same-length c = search needs
-
 returns : tie.Need-returns
 returns c =
     let call = c .before .before .before in
     rw (← call .before .before .new .ensures, ← call .reverse-to-slice .ensures .0) (c .path-answer-out .ensures, call .reverse-to-slice .ensures .1)
 
 pub scion-reverse-path-spec : {M : Type 1} → statement M
-scion-reverse-path-spec = tie.close (tie.spec new-requires reverse-to-slice-requires path-answer-out-requires same-length returns)
+scion-reverse-path-spec = tie.close (tie.spec (λ c κs. search needs) (λ c κs. search needs) (λ c κs. search needs) (λ c. search needs) returns)

@@ -3,18 +3,6 @@ use borrow.Author.Needs.{needs}
 use Rattle.scion_proto.proofs.paths.scion_set_egress_router_alert.Statement.{statement}
 use Rattle.scion_proto.proofs.paths.scion_set_egress_router_alert.Tie as tie
 
-new-requires : tie.Need-new-requires
-new-requires c κs = search needs
-
-set-cons-egress-router-alert-requires : tie.Need-set-cons-egress-router-alert-requires
-set-cons-egress-router-alert-requires c κs = search needs
-
-path-answer-out-requires : tie.Need-path-answer-out-requires
-path-answer-out-requires c κs = search needs
-
-same-length : tie.Need-same-length
-same-length c = search needs
-
 returns : tie.Need-returns
 returns c =
     let call = c .before .before .before in
@@ -23,4 +11,4 @@ returns c =
 
 pub scion-set-egress-router-alert-spec : {M : Type 1} → statement M
 scion-set-egress-router-alert-spec =
-    tie.close (tie.spec new-requires set-cons-egress-router-alert-requires path-answer-out-requires same-length returns)
+    tie.close (tie.spec (λ c κs. search needs) (λ c κs. search needs) (λ c κs. search needs) (λ c. search needs) returns)

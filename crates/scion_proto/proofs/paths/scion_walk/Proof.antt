@@ -3,22 +3,10 @@ use borrow.Author.Needs.{needs}
 use Rattle.scion_proto.proofs.paths.scion_walk.Statement.{statement}
 use Rattle.scion_proto.proofs.paths.scion_walk.Tie as tie
 
-new-requires : tie.Need-new-requires
-new-requires c κs = search needs
-
-walk-requires : tie.Need-walk-requires
-walk-requires c κs = search needs
-
-walk-out-requires : tie.Need-walk-out-requires
-walk-out-requires c κs = search needs
-
-same-length : tie.Need-same-length
-same-length c = search needs
-
 returns : tie.Need-returns
 returns c =
     let call = c .before .before .before in
     rw (← call .before .before .new .ensures, ← call .walk .ensures .0) (c .walk-out .ensures, call .walk .ensures .1)
 
 pub scion-walk-spec : {M : Type 1} → statement M
-scion-walk-spec = tie.close (tie.spec new-requires walk-requires walk-out-requires same-length returns)
+scion-walk-spec = tie.close (tie.spec (λ c κs. search needs) (λ c κs. search needs) (λ c κs. search needs) (λ c. search needs) returns)

@@ -8,9 +8,6 @@ use Rattle.wire_encoding.proofs.BigEndian.{found, truncated}
 use Rattle.wire_encoding.proofs.read.get_u64.Statement.{statement}
 use Rattle.wire_encoding.proofs.read.get_u64.Tie as tie
 
-has-room-requires : tie.Need-has-room-requires
-has-room-requires c κs = search needs
-
 read-big-endian-requires : tie.Need-read-big-endian-requires
 read-big-endian-requires c κs =
     let a = c .before .before .before .args in
@@ -24,4 +21,4 @@ returns-2 : tie.Need-returns-2
 returns-2 c = truncated 8 _ _ (leb-false _ _ (sym (c .before .has-room .ensures) ∙ c .if1 .left))
 
 pub get-u64-spec : {M : Type 1} → statement M
-get-u64-spec = tie.close (tie.spec has-room-requires read-big-endian-requires returns returns-2)
+get-u64-spec = tie.close (tie.spec (λ c κs. search needs) read-big-endian-requires returns returns-2)

@@ -6,15 +6,6 @@ use Rattle.wire_encoding.specs.Result.{Result, orElse}
 use Rattle.wire_encoding.proofs.read.u64_or_zero.Statement.{statement}
 use Rattle.wire_encoding.proofs.read.u64_or_zero.Tie as tie
 
-get-u64-requires : tie.Need-get-u64-requires
-get-u64-requires c κs = search needs
-
-enum-known-number : tie.Need-enum-known-number
-enum-known-number c = search needs
-
-enum-told : tie.Need-enum-told
-enum-told c = search needs
-
 returns : tie.Need-returns
 returns c = ap (λ (r : Result ℕ ℕ). orElse r 0) (rw (c .before .number .given .1) at (c .before .before .before .get-u64 .ensures))
 
@@ -23,4 +14,4 @@ returns-2 c = ap (λ (r : Result ℕ ℕ). orElse r 0) (rw (c .enum-told .given 
 
 pub u64-or-zero-spec : {M : Type 1} → statement M
 u64-or-zero-spec =
-    tie.close (tie.spec get-u64-requires enum-known-number enum-told returns returns-2)
+    tie.close (tie.spec (λ c κs. search needs) (λ c. search needs) (λ c. search needs) returns returns-2)

@@ -8,18 +8,12 @@ use Rattle.wire_encoding.proofs.Writes.{done, no-room}
 use Rattle.wire_encoding.proofs.write.put_slice.Statement.{statement}
 use Rattle.wire_encoding.proofs.write.put_slice.Tie as tie
 
-has-room-requires : tie.Need-has-room-requires
-has-room-requires c κs = search needs
-
 write-bytes-requires : tie.Need-write-bytes-requires
 write-bytes-requires c κs =
     let a = c .before .before .before .before .before .args in
     let room : a .at + length (a .src .now) ≤ length (a .dst .now) =
     leb-true _ _ (sym (c .before .before .has-room .ensures) ∙ c .before .if1 .taken) in
     search needs
-
-same-length : tie.Need-same-length
-same-length c = search needs
 
 returns : tie.Need-returns
 returns c =
@@ -34,4 +28,4 @@ returns-2 c =
     rw (no-room (a .dst .now) (a .at) (a .src .now) _ refl (leb-false _ _ (sym (c .before .has-room .ensures) ∙ c .if1 .left))) (refl, refl)
 
 pub put-slice-spec : {M : Type 1} → statement M
-put-slice-spec = tie.close (tie.spec has-room-requires write-bytes-requires same-length returns returns-2)
+put-slice-spec = tie.close (tie.spec (λ c κs. search needs) write-bytes-requires (λ c. search needs) returns returns-2)

@@ -9,17 +9,11 @@ use Rattle.wire_encoding.proofs.Writes.{done, no-room}
 use Rattle.wire_encoding.proofs.write.put_u16.Statement.{statement}
 use Rattle.wire_encoding.proofs.write.put_u16.Tie as tie
 
-has-room-requires : tie.Need-has-room-requires
-has-room-requires c κs = search needs
-
 write-big-endian-requires : tie.Need-write-big-endian-requires
 write-big-endian-requires c κs =
     let a = c .before .before .before .before .args in
     let room : a .at + 2 ≤ length (a .dst .now) = leb-true _ _ (sym (c .before .before .has-room .ensures) ∙ c .before .if1 .taken) in
     search needs
-
-same-length : tie.Need-same-length
-same-length c = search needs
 
 returns : tie.Need-returns
 returns c =
@@ -31,4 +25,4 @@ returns-2 : tie.Need-returns-2
 returns-2 c = rw (no-room _ _ _ 2 (length-bytesOf 2 _) (leb-false _ _ (sym (c .before .has-room .ensures) ∙ c .if1 .left))) (refl, refl)
 
 pub put-u16-spec : {M : Type 1} → statement M
-put-u16-spec = tie.close (tie.spec has-room-requires write-big-endian-requires same-length returns returns-2)
+put-u16-spec = tie.close (tie.spec (λ c κs. search needs) write-big-endian-requires (λ c. search needs) returns returns-2)

@@ -3,11 +3,8 @@ use borrow.Author.Needs.{needs}
 use Rattle.packet.proofs.raw.ScionPacketRaw.path.Statement.{statement}
 use Rattle.packet.proofs.raw.ScionPacketRaw.path.Tie as tie
 
-part-of-requires : tie.Need-part-of-requires
-part-of-requires c κs = search needs
-
 returns : tie.Need-returns
 returns c = c .part-of .ensures
 
 pub path-spec : {M : Type 1} → statement M
-path-spec = tie.close (tie.spec part-of-requires returns)
+path-spec = tie.close (tie.spec (λ c κs. search needs) returns)

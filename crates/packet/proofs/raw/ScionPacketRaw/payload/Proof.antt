@@ -3,11 +3,8 @@ use borrow.Author.Needs.{needs}
 use Rattle.packet.proofs.raw.ScionPacketRaw.payload.Statement.{statement}
 use Rattle.packet.proofs.raw.ScionPacketRaw.payload.Tie as tie
 
-part-of-requires : tie.Need-part-of-requires
-part-of-requires c κs = search needs
-
 returns : tie.Need-returns
 returns c = c .part-of .ensures
 
 pub payload-spec : {M : Type 1} → statement M
-payload-spec = tie.close (tie.spec part-of-requires returns)
+payload-spec = tie.close (tie.spec (λ c κs. search needs) returns)

@@ -6,30 +6,15 @@ use borrow.Author.Needs.{needs}
 use Rattle.path.proofs.dataplane.DataplanePath.decode.Statement.{statement}
 use Rattle.path.proofs.dataplane.DataplanePath.decode.Tie as tie
 
-unread-requires : tie.Need-unread-requires
-unread-requires c κs = search needs
-
 returns : tie.Need-returns
 unfolding spec.readDataplane
 returns c = rw (eq-eqb _ _ (c .before .if1 .taken)) (c .unread .ensures)
-
-unread-requires-2 : tie.Need-unread-requires-2
-unread-requires-2 c κs = search needs
 
 returns-2 : tie.Need-returns-2
 unfolding spec.readDataplane
 returns-2 c =
     let first = c .before .before .before in
     rw (ne-eqb _ _ (first .if1 .left), ne-eqb _ _ (c .before .if2 .taken)) (c .unread2 .ensures)
-
-decode-requires : tie.Need-decode-requires
-decode-requires c κs = search needs
-
-enum-known-answer : tie.Need-enum-known-answer
-enum-known-answer c = search needs
-
-refused-requires : tie.Need-refused-requires
-refused-requires c κs = search needs
 
 returns-3 : tie.Need-returns-3
 unfolding spec.readDataplane
@@ -38,12 +23,6 @@ returns-3 c =
     let tests = told .before .before .before in
     let read = path-refused _ (told .before .before .decode .ensures) (told .answer .given .1) in
     rw (ne-eqb _ 0 (tests .before .before .if1 .left), eq-eqb _ 1 (tests .if2 .left), read) (c .refused .ensures)
-
-enum-told : tie.Need-enum-told
-enum-told c = search needs
-
-encoded-path-length-requires : tie.Need-encoded-path-length-requires
-encoded-path-length-requires c κs = search needs
 
 returns-4 : tie.Need-returns-4
 unfolding spec.readDataplane spec.dataplaneRead
@@ -57,14 +36,14 @@ pub decode-spec : {M : Type 1} → statement M
 decode-spec =
     tie.close
     (tie.spec
-    unread-requires
+    (λ c κs. search needs)
     returns
-    unread-requires-2
+    (λ c κs. search needs)
     returns-2
-    decode-requires
-    enum-known-answer
-    refused-requires
+    (λ c κs. search needs)
+    (λ c. search needs)
+    (λ c κs. search needs)
     returns-3
-    enum-told
-    encoded-path-length-requires
+    (λ c. search needs)
+    (λ c κs. search needs)
     returns-4)

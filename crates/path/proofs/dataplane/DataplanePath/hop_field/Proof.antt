@@ -3,14 +3,8 @@ use borrow.Author.Needs.{needs}
 use Rattle.path.proofs.dataplane.DataplanePath.hop_field.Statement.{statement}
 use Rattle.path.proofs.dataplane.DataplanePath.hop_field.Tie as tie
 
-locate-hop-field-requires : tie.Need-locate-hop-field-requires
-locate-hop-field-requires c κs = search needs
-
-part-of-requires : tie.Need-part-of-requires
-part-of-requires c κs = search needs
-
 returns : tie.Need-returns
 returns c = rw (← c .before .before .locate-hop-field .ensures) (c .part-of .ensures)
 
 pub hop-field-spec : {M : Type 1} → statement M
-hop-field-spec = tie.close (tie.spec locate-hop-field-requires part-of-requires returns)
+hop-field-spec = tie.close (tie.spec (λ c κs. search needs) (λ c κs. search needs) returns)

@@ -3,14 +3,8 @@ use borrow.Author.Needs.{needs}
 use Rattle.path.proofs.dataplane.DataplanePath.info_field.Statement.{statement}
 use Rattle.path.proofs.dataplane.DataplanePath.info_field.Tie as tie
 
-locate-info-field-requires : tie.Need-locate-info-field-requires
-locate-info-field-requires c κs = search needs
-
-part-of-requires : tie.Need-part-of-requires
-part-of-requires c κs = search needs
-
 returns : tie.Need-returns
 returns c = rw (← c .before .before .locate-info-field .ensures) (c .part-of .ensures)
 
 pub info-field-spec : {M : Type 1} → statement M
-info-field-spec = tie.close (tie.spec locate-info-field-requires part-of-requires returns)
+info-field-spec = tie.close (tie.spec (λ c κs. search needs) (λ c κs. search needs) returns)

@@ -5,29 +5,11 @@ use borrow.Author.Needs.{needs}
 use Rattle.path.proofs.dataplane.DataplanePath.locate_hop_field.Statement.{statement}
 use Rattle.path.proofs.dataplane.DataplanePath.locate_hop_field.Tie as tie
 
-standard-requires : tie.Need-standard-requires
-standard-requires c κs = search needs
-
-enum-known-answer : tie.Need-enum-known-answer
-enum-known-answer c = search needs
-
-refused-requires : tie.Need-refused-requires
-refused-requires c κs = search needs
-
 returns : tie.Need-returns
 unfolding spec.hopFieldIn
 returns c =
     let told = c .before .before in
     rw (answer-refused _ (told .before .before .standard .ensures) (told .answer .given .1)) (c .refused .ensures)
-
-enum-told : tie.Need-enum-told
-enum-told c = search needs
-
-hop-field-offset-requires : tie.Need-hop-field-offset-requires
-hop-field-offset-requires c κs = search needs
-
-at-requires : tie.Need-at-requires
-at-requires c κs = search needs
 
 returns-2 : tie.Need-returns-2
 unfolding spec.hopFieldIn
@@ -39,11 +21,11 @@ pub locate-hop-field-spec : {M : Type 1} → statement M
 locate-hop-field-spec =
     tie.close
     (tie.spec
-    standard-requires
-    enum-known-answer
-    refused-requires
+    (λ c κs. search needs)
+    (λ c. search needs)
+    (λ c κs. search needs)
     returns
-    enum-told
-    hop-field-offset-requires
-    at-requires
+    (λ c. search needs)
+    (λ c κs. search needs)
+    (λ c κs. search needs)
     returns-2)

@@ -7,9 +7,6 @@ use borrow.Author.Needs.{needs}
 use Rattle.path.proofs.dataplane.DataplanePath.raw.Statement.{statement}
 use Rattle.path.proofs.dataplane.DataplanePath.raw.Tie as tie
 
-decode-requires : tie.Need-decode-requires
-decode-requires c κs = search needs
-
 slice-aggregate-result : tie.Need-slice-aggregate-result
 slice-aggregate-result c =
     let a = c .before .before .before .args in
@@ -19,4 +16,4 @@ returns : tie.Need-returns
 returns c = ap (λ r. take (r .length) (c .before .before .before .args .bytes .now)) (c .before .decode .ensures)
 
 pub raw-spec : {M : Type 1} → statement M
-raw-spec = tie.close (tie.spec decode-requires slice-aggregate-result returns)
+raw-spec = tie.close (tie.spec (λ c κs. search needs) slice-aggregate-result returns)

@@ -3,14 +3,8 @@ use borrow.Author.Needs.{needs}
 use Rattle.path.proofs.dataplane.DataplanePath.segment_hop_fields.Statement.{statement}
 use Rattle.path.proofs.dataplane.DataplanePath.segment_hop_fields.Tie as tie
 
-segment-requires : tie.Need-segment-requires
-segment-requires c κs = search needs
-
-part-of-requires : tie.Need-part-of-requires
-part-of-requires c κs = search needs
-
 returns : tie.Need-returns
 returns c = rw (← c .before .before .segment .ensures) (c .part-of .ensures)
 
 pub segment-hop-fields-spec : {M : Type 1} → statement M
-segment-hop-fields-spec = tie.close (tie.spec segment-requires part-of-requires returns)
+segment-hop-fields-spec = tie.close (tie.spec (λ c κs. search needs) (λ c κs. search needs) returns)

@@ -7,26 +7,11 @@ use borrow.Author.Needs.{needs}
 use Rattle.path.proofs.dataplane.DataplanePath.set_alert.Statement.{statement}
 use Rattle.path.proofs.dataplane.DataplanePath.set_alert.Tie as tie
 
-locate-hop-field-requires : tie.Need-locate-hop-field-requires
-locate-hop-field-requires c κs = search needs
-
-enum-known-answer : tie.Need-enum-known-answer
-enum-known-answer c = search needs
-
-refused-requires : tie.Need-refused-requires
-refused-requires c κs = search needs
-
-same-length : tie.Need-same-length
-same-length c = search needs
-
 returns : tie.Need-returns
 returns c =
     let told = c .before .before in
     let call = told .before .before .locate-hop-field .ensures in
     rw (alerted-refused _ _ _ _ _ (located-refused _ _ call (told .answer .given .1))) (c .refused .ensures, refl)
-
-enum-told : tie.Need-enum-told
-enum-told c = search needs
 
 slice-read-flags : tie.Need-slice-read-flags
 slice-read-flags c =
@@ -37,17 +22,8 @@ slice-read-flags c =
     let field = hop-view (a .bytes .now) (a .self .«path_type») (a .index) _ found in
     omega (arith, field .inside, field .sized)
 
-with-alert-requires : tie.Need-with-alert-requires
-with-alert-requires c κs = search needs
-
 slice-write-bytes : tie.Need-slice-write-bytes
 slice-write-bytes c = slice-read-flags (c .before)
-
-accepted-requires : tie.Need-accepted-requires
-accepted-requires c κs = search needs
-
-same-length-2 : tie.Need-same-length-2
-same-length-2 c = search needs
 
 returns-2 : tie.Need-returns-2
 unfolding spec.alerted spec.pathAnswer
@@ -64,15 +40,15 @@ pub set-alert-spec : {M : Type 1} → statement M
 set-alert-spec =
     tie.close
     (tie.spec
-    locate-hop-field-requires
-    enum-known-answer
-    refused-requires
-    same-length
+    (λ c κs. search needs)
+    (λ c. search needs)
+    (λ c κs. search needs)
+    (λ c. search needs)
     returns
-    enum-told
+    (λ c. search needs)
     slice-read-flags
-    with-alert-requires
+    (λ c κs. search needs)
     slice-write-bytes
-    accepted-requires
-    same-length-2
+    (λ c κs. search needs)
+    (λ c. search needs)
     returns-2)

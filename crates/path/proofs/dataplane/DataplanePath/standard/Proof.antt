@@ -6,35 +6,17 @@ use borrow.Author.Needs.{needs}
 use Rattle.path.proofs.dataplane.DataplanePath.standard.Statement.{statement}
 use Rattle.path.proofs.dataplane.DataplanePath.standard.Tie as tie
 
-decode-requires : tie.Need-decode-requires
-decode-requires c κs = search needs
-
-enum-known-answer : tie.Need-enum-known-answer
-enum-known-answer c = search needs
-
-not-read-requires : tie.Need-not-read-requires
-not-read-requires c κs = search needs
-
 returns : tie.Need-returns
 unfolding spec.standard
 returns c =
     let told = c .before .before in
     rw (read-refused _ (told .before .before .decode .ensures) (told .answer .given .1)) (c .not-read .ensures)
 
-enum-told : tie.Need-enum-told
-enum-told c = search needs
-
-refused-requires : tie.Need-refused-requires
-refused-requires c κs = search needs
-
 returns-2 : tie.Need-returns-2
 unfolding spec.standard
 returns-2 c =
     let told = c .before .before .before in
     rw (read-ok _ (told .before .before .decode .ensures) (told .enum-told .given .1), ne-eqb _ _ (c .before .if1 .taken)) (c .refused .ensures)
-
-accepted-requires : tie.Need-accepted-requires
-accepted-requires c κs = search needs
 
 returns-3 : tie.Need-returns-3
 unfolding spec.standard spec.pathAnswer
@@ -46,12 +28,12 @@ pub standard-spec : {M : Type 1} → statement M
 standard-spec =
     tie.close
     (tie.spec
-    decode-requires
-    enum-known-answer
-    not-read-requires
+    (λ c κs. search needs)
+    (λ c. search needs)
+    (λ c κs. search needs)
     returns
-    enum-told
-    refused-requires
+    (λ c. search needs)
+    (λ c κs. search needs)
     returns-2
-    accepted-requires
+    (λ c κs. search needs)
     returns-3)

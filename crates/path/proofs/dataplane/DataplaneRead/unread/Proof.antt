@@ -4,12 +4,9 @@ use Rattle.path.specs.Dataplane.{dataplaneRead}
 use Rattle.path.proofs.dataplane.DataplaneRead.unread.Statement.{statement}
 use Rattle.path.proofs.dataplane.DataplaneRead.unread.Tie as tie
 
-zero-requires : tie.Need-zero-requires
-zero-requires c κs = search needs
-
 returns : tie.Need-returns
 unfolding dataplaneRead
 returns c = rw (c .zero .ensures)
 
 pub unread-spec : {M : Type 1} → statement M
-unread-spec = tie.close (tie.spec zero-requires returns)
+unread-spec = tie.close (tie.spec (λ c κs. search needs) returns)

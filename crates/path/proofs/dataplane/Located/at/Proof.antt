@@ -4,18 +4,6 @@ use Rattle.path.specs.Dataplane.{located}
 use Rattle.path.proofs.dataplane.Located.at.Statement.{statement}
 use Rattle.path.proofs.dataplane.Located.at.Tie as tie
 
-enum-known-offset : tie.Need-enum-known-offset
-enum-known-offset c = search needs
-
-enum-told : tie.Need-enum-told
-enum-told c = search needs
-
-refused-requires : tie.Need-refused-requires
-refused-requires c κs = search needs
-
-accepted-requires : tie.Need-accepted-requires
-accepted-requires c κs = search needs
-
 returns : tie.Need-returns
 unfolding located
 returns c = rw (c .before .before .offset .given .1) (c .accepted .ensures)
@@ -25,4 +13,4 @@ unfolding located
 returns-2 c = rw (c .before .enum-told .given .1) (c .refused .ensures)
 
 pub at-spec : {M : Type 1} → statement M
-at-spec = tie.close (tie.spec enum-known-offset accepted-requires enum-told refused-requires returns returns-2)
+at-spec = tie.close (tie.spec (λ c. search needs) (λ c κs. search needs) (λ c. search needs) (λ c κs. search needs) returns returns-2)

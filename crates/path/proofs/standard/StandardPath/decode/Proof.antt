@@ -6,29 +6,11 @@ use borrow.Author.Needs.{needs}
 use Rattle.path.proofs.standard.StandardPath.decode.Statement.{statement}
 use Rattle.path.proofs.standard.StandardPath.decode.Tie as tie
 
-decode-requires : tie.Need-decode-requires
-decode-requires c κs = search needs
-
-enum-known-answer : tie.Need-enum-known-answer
-enum-known-answer c = search needs
-
-refused-requires : tie.Need-refused-requires
-refused-requires c κs = search needs
-
 returns : tie.Need-returns
 unfolding spec.readPath
 returns c =
     let told = c .before .before in
     rw (meta-refused _ (told .before .before .decode .ensures) (told .answer .given .1)) (c .refused .ensures)
-
-enum-told : tie.Need-enum-told
-enum-told c = search needs
-
-encoded-path-length-requires : tie.Need-encoded-path-length-requires
-encoded-path-length-requires c κs = search needs
-
-refused-requires-2 : tie.Need-refused-requires-2
-refused-requires-2 c κs = search needs
 
 returns-2 : tie.Need-returns-2
 unfolding spec.readPath
@@ -38,9 +20,6 @@ returns-2 c =
     let header = meta-ok _ (told .before .before .decode .ensures) (told .enum-told .given .1) in
     rw (header, ← size .encoded-path-length .ensures .0, lt-leb _ _ (c .before .if1 .taken))
     (c .refused2 .ensures)
-
-accepted-requires : tie.Need-accepted-requires
-accepted-requires c κs = search needs
 
 returns-3 : tie.Need-returns-3
 unfolding spec.readPath spec.pathRead
@@ -55,13 +34,13 @@ pub decode-spec : {M : Type 1} → statement M
 decode-spec =
     tie.close
     (tie.spec
-    decode-requires
-    enum-known-answer
-    refused-requires
+    (λ c κs. search needs)
+    (λ c. search needs)
+    (λ c κs. search needs)
     returns
-    enum-told
-    encoded-path-length-requires
-    refused-requires-2
+    (λ c. search needs)
+    (λ c κs. search needs)
+    (λ c κs. search needs)
     returns-2
-    accepted-requires
+    (λ c κs. search needs)
     returns-3)

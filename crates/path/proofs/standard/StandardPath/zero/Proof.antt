@@ -3,11 +3,8 @@ use borrow.Author.Needs.{needs}
 use Rattle.path.proofs.standard.StandardPath.zero.Statement.{statement}
 use Rattle.path.proofs.standard.StandardPath.zero.Tie as tie
 
-from-u32-requires : tie.Need-from-u32-requires
-from-u32-requires c κs = search needs
-
 returns : tie.Need-returns
 returns c = rw (c .from-u32 .ensures)
 
 pub zero-spec : {M : Type 1} → statement M
-zero-spec = tie.close (tie.spec from-u32-requires returns)
+zero-spec = tie.close (tie.spec (λ c κs. search needs) returns)
