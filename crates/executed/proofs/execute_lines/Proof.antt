@@ -39,5 +39,4 @@ execute-lines-spec =
     slice-aggregate-execute-all
     (λ c κs. search needs)
     keep-rest-requires
-    (λ c. search needs)
-    (λ c. search needs))
+    (λ c. search needs) (λ c. search needs))

@@ -30,9 +30,7 @@ pub expiry-time-spec : {M : Type 1} → statement M
 expiry-time-spec =
     tie.close
     (tie.spec
-    (λ c κs. search needs)
-    (λ c. search needs)
-    (λ c κs. search needs)
+    (λ c κs. search needs) (λ c. search needs) (λ c κs. search needs)
     returns
     (λ c. search needs)
     path-expiry-requires

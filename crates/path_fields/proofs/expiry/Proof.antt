@@ -10,4 +10,6 @@ unfolding expiryTime expiryOffset
 returns c = (refl, search needs)
 
 pub expiry-spec : {M : Type 1} → statement M
-expiry-spec = tie.close (tie.spec (λ c. search needs) (λ c. search needs) (λ c. search needs) (λ c. search needs) returns)
+expiry-spec = tie.close (tie.spec
+    (λ c. search needs) (λ c. search needs) (λ c. search needs) (λ c. search needs)
+    returns)

@@ -13,4 +13,7 @@ returns-2 : tie.Need-returns-2
 returns-2 c = was-wide 2 _ (sym (ap answerU2 (c .enum-told2 .given .1)) ∙ c .before .before .new .ensures)
 
 pub fits-2-spec : {M : Type 1} → statement M
-fits-2-spec = tie.close (tie.spec (λ c κs. search needs) (λ c. search needs) (λ c. search needs) returns returns-2)
+fits-2-spec = tie.close (tie.spec
+    (λ c κs. search needs) (λ c. search needs) (λ c. search needs)
+    returns
+    returns-2)

@@ -9,4 +9,6 @@ unfolding spec.nthField
 returns c = search needs
 
 pub nth-field-spec : {M : Type 1} → statement M
-nth-field-spec = tie.close (tie.spec (λ c. search needs) (λ c. search needs) (λ c. search needs) (λ c. search needs) returns)
+nth-field-spec = tie.close (tie.spec
+    (λ c. search needs) (λ c. search needs) (λ c. search needs) (λ c. search needs)
+    returns)

@@ -56,7 +56,6 @@ is-peering-path-spec =
     returns
     info-field-at-requires
     info-field-at-requires-2
-    (λ c κs. search needs)
-    (λ c κs. search needs)
+    (λ c κs. search needs) (λ c κs. search needs)
     returns-2
     returns-3)

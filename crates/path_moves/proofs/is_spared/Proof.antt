@@ -36,4 +36,8 @@ unfolding spared
 returns-3 c = rw (← c .before .is-peering .ensures, c .if1 .left)
 
 pub is-spared-spec : {M : Type 1} → statement M
-is-spared-spec = tie.close (tie.spec (λ c κs. search needs) (λ c. search needs) returns returns-2 returns-3)
+is-spared-spec = tie.close (tie.spec
+    (λ c κs. search needs) (λ c. search needs)
+    returns
+    returns-2
+    returns-3)

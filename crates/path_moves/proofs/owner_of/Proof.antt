@@ -15,4 +15,8 @@ returns-2 c = rw (← c .before .is-constructed-dir .ensures, c .if1 .left) (ome
 
 pub owner-of-spec : {M : Type 1} → statement M
 owner-of-spec =
-    tie.close (tie.spec (λ c κs. search needs) (λ c κs. search needs) returns (λ c. search needs) returns-2)
+    tie.close (tie.spec
+    (λ c κs. search needs) (λ c κs. search needs)
+    returns
+    (λ c. search needs)
+    returns-2)

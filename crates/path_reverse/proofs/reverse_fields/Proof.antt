@@ -42,9 +42,7 @@ pub reverse-fields-spec : {M : Type 1} → statement M
 reverse-fields-spec =
     tie.close
     (tie.spec
-    (λ c κs. search needs)
-    (λ c κs. search needs)
-    (λ c κs. search needs)
+    (λ c κs. search needs) (λ c κs. search needs) (λ c κs. search needs)
     word-of-requires
     (λ c κs. search needs)
     reverse-info-fields-requires

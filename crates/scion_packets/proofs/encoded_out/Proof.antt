@@ -14,4 +14,7 @@ returns-2 c = rw (c .before .before .answer .given .1, c .number .ensures)
 
 pub encoded-out-spec : {M : Type 1} → statement M
 encoded-out-spec =
-    tie.close (tie.spec (λ c. search needs) (λ c. search needs) (λ c κs. search needs) returns returns-2)
+    tie.close (tie.spec
+    (λ c. search needs) (λ c. search needs) (λ c κs. search needs)
+    returns
+    returns-2)

@@ -15,4 +15,7 @@ returns-2 c = rw (c .before .before .before .answer .given .1, c .before .number
 pub answer-out-spec : {M : Type 1} → statement M
 answer-out-spec =
     tie.close
-    (tie.spec (λ c. search needs) (λ c. search needs) (λ c κs. search needs) (λ c κs. search needs) returns returns-2)
+    (tie.spec
+    (λ c. search needs) (λ c. search needs) (λ c κs. search needs) (λ c κs. search needs)
+    returns
+    returns-2)

@@ -57,4 +57,10 @@ cast-result-2 c =
     rw (toZ-ofZ (c .before .fits .number)) (small .positive, record { fits = omega (arith, small .small) })
 
 pub distance-spec : {M : Type 1} → statement M
-distance-spec = tie.close (tie.spec sub-result cast-result add-result (λ c. search needs) cast-result-2 (λ c. search needs))
+distance-spec = tie.close (tie.spec
+    sub-result
+    cast-result
+    add-result
+    (λ c. search needs)
+    cast-result-2
+    (λ c. search needs))

@@ -25,10 +25,7 @@ pub opaque-spec : {M : Type 1} → statement M
 opaque-spec =
     tie.close
     (tie.spec
-    (λ c κs. search needs)
-    (λ c. search needs)
-    (λ c κs. search needs)
+    (λ c κs. search needs) (λ c. search needs) (λ c κs. search needs)
     array-share-prefix-bytes
     slice-aggregate-hex
-    (λ c κs. search needs)
-    (λ c. search needs))
+    (λ c κs. search needs) (λ c. search needs))

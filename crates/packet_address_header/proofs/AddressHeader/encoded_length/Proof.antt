@@ -12,4 +12,6 @@ returns c = (rw (c .before .encoded-length .ensures .0, c .encoded-length2 .ensu
 pub encoded-length-spec : {M : Type 1} → statement M
 encoded-length-spec =
     tie.close
-    (tie.spec (λ c κs. search needs) (λ c. search needs) (λ c κs. search needs) (λ c. search needs) returns)
+    (tie.spec
+    (λ c κs. search needs) (λ c. search needs) (λ c κs. search needs) (λ c. search needs)
+    returns)

@@ -14,4 +14,7 @@ returns-2 c = rw (c .before .enum-told .given .1, c .new2 .ensures)
 
 pub in-network-spec : {M : Type 1} → statement M
 in-network-spec =
-    tie.close (tie.spec (λ c. search needs) (λ c κs. search needs) (λ c. search needs) (λ c κs. search needs) returns returns-2)
+    tie.close (tie.spec
+    (λ c. search needs) (λ c κs. search needs) (λ c. search needs) (λ c κs. search needs)
+    returns
+    returns-2)

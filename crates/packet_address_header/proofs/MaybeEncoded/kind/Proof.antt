@@ -13,4 +13,7 @@ unfolding kindOf
 returns-2 c = rw (c .before .self2 .given .1)
 
 pub kind-spec : {M : Type 1} → statement M
-kind-spec = tie.close (tie.spec (λ c. search needs) (λ c κs. search needs) (λ c. search needs) returns returns-2)
+kind-spec = tie.close (tie.spec
+    (λ c. search needs) (λ c κs. search needs) (λ c. search needs)
+    returns
+    returns-2)

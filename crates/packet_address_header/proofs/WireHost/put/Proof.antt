@@ -102,9 +102,7 @@ put-spec =
     sub-put-u32
     part-put-u32-start
     part-put-u32-end
-    (λ c. search needs)
-    (λ c κs. search needs)
-    (λ c κs. search needs)
+    (λ c. search needs) (λ c κs. search needs) (λ c κs. search needs)
     add-done
     loop-less
     loop-again

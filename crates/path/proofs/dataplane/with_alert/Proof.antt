@@ -12,8 +12,4 @@ returns-2 c = rw (c .before .if1 .left) (c .with-bit-0 .ensures)
 pub with-alert-spec : {M : Type 1} → statement M
 with-alert-spec =
     tie.close
-    (tie.spec
-    (λ c κs. search needs)
-    returns
-    (λ c κs. search needs)
-    returns-2)
+    (tie.spec (λ c κs. search needs) returns (λ c κs. search needs) returns-2)

@@ -13,4 +13,8 @@ unfolding ingressInterface
 returns-2 c = rw (← c .before .before .is-constructed-dir .ensures, c .before .if1 .left) (c .new2 .ensures)
 
 pub ingress-interface-spec : {M : Type 1} → statement M
-ingress-interface-spec = tie.close (tie.spec (λ c κs. search needs) (λ c κs. search needs) returns (λ c κs. search needs) returns-2)
+ingress-interface-spec = tie.close (tie.spec
+    (λ c κs. search needs) (λ c κs. search needs)
+    returns
+    (λ c κs. search needs)
+    returns-2)

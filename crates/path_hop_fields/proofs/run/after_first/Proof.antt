@@ -11,4 +11,8 @@ returns-2 : tie.Need-returns-2
 returns-2 c = to-the-end 12 (c .before .before .args .run .now)
 
 pub after-first-spec : {M : Type 1} → statement M
-after-first-spec = tie.close (tie.spec (λ c. search needs) returns (λ c. search needs) (λ c. search needs) (λ c. search needs) returns-2)
+after-first-spec = tie.close (tie.spec
+    (λ c. search needs)
+    returns
+    (λ c. search needs) (λ c. search needs) (λ c. search needs)
+    returns-2)

@@ -14,4 +14,9 @@ slice-aggregate-result-2 : tie.Need-slice-aggregate-result-2
 slice-aggregate-result-2 c = sym (length-take-le _ (c .before .before .args .run .now) (omega arith))
 
 pub before-last-spec : {M : Type 1} → statement M
-before-last-spec = tie.close (tie.spec (λ c. search needs) returns (λ c. search needs) slice-aggregate-result-2 (λ c. search needs))
+before-last-spec = tie.close (tie.spec
+    (λ c. search needs)
+    returns
+    (λ c. search needs)
+    slice-aggregate-result-2
+    (λ c. search needs))

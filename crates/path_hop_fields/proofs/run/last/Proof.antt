@@ -15,4 +15,8 @@ unfolding spec.last
 returns-2 c = rw (le-ltb _ _ (c .before .if1 .left), to-the-end _ (c .before .before .args .run .now))
 
 pub last-spec : {M : Type 1} → statement M
-last-spec = tie.close (tie.spec (λ c. search needs) returns (λ c. search needs) (λ c. search needs) (λ c. search needs) (λ c. search needs) returns-2)
+last-spec = tie.close (tie.spec
+    (λ c. search needs)
+    returns
+    (λ c. search needs) (λ c. search needs) (λ c. search needs) (λ c. search needs)
+    returns-2)

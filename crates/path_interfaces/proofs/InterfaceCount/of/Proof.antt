@@ -9,6 +9,4 @@ returns c = rw (c .interfaces-count .ensures .0)
 pub of-spec : {M : Type 1} → statement M
 of-spec =
     tie.close
-    (tie.spec
-    (λ c κs. search needs)
-    returns)
+    (tie.spec (λ c κs. search needs) returns)

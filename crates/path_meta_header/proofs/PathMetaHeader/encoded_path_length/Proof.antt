@@ -12,4 +12,6 @@ returns c = omega arith
 pub encoded-path-length-spec : {M : Type 1} → statement M
 encoded-path-length-spec =
     tie.close
-    (tie.spec (λ c κs. search needs) (λ c κs. search needs) (λ c. search needs) (λ c. search needs) returns)
+    (tie.spec
+    (λ c κs. search needs) (λ c κs. search needs) (λ c. search needs) (λ c. search needs)
+    returns)

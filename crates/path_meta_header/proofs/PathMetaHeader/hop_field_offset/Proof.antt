@@ -24,4 +24,7 @@ returns-2 c =
 pub hop-field-offset-spec : {M : Type 1} → statement M
 hop-field-offset-spec =
     tie.close
-    (tie.spec (λ c κs. search needs) (λ c κs. search needs) (λ c. search needs) (λ c. search needs) returns returns-2)
+    (tie.spec
+    (λ c κs. search needs) (λ c κs. search needs) (λ c. search needs) (λ c. search needs)
+    returns
+    returns-2)

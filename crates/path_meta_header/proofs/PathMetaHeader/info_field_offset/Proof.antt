@@ -17,4 +17,7 @@ returns-2 c = let h : spec.infoFieldsCount (c .before .before .args .self) ≤ c
 
 pub info-field-offset-spec : {M : Type 1} → statement M
 info-field-offset-spec =
-    tie.close (tie.spec (λ c κs. search needs) (λ c. search needs) (λ c. search needs) returns returns-2)
+    tie.close (tie.spec
+    (λ c κs. search needs) (λ c. search needs) (λ c. search needs)
+    returns
+    returns-2)

@@ -16,4 +16,8 @@ returns c = omega arith
 pub interfaces-count-spec : {M : Type 1} → statement M
 interfaces-count-spec =
     tie.close
-    (tie.spec (λ c κs. search needs) (λ c κs. search needs) sub-result (λ c. search needs) returns)
+    (tie.spec
+    (λ c κs. search needs) (λ c κs. search needs)
+    sub-result
+    (λ c. search needs)
+    returns)

@@ -20,4 +20,9 @@ returns-3 c = simp (ne-eqb _ _ (c .before .if1 .left), ne-eqb _ _ (c .if2 .left)
 pub lengths-valid-spec : {M : Type 1} → statement M
 lengths-valid-spec =
     tie.close
-    (tie.spec (λ c. search needs) returns (λ c. search needs) (λ c. search needs) returns-2 returns-3)
+    (tie.spec
+    (λ c. search needs)
+    returns
+    (λ c. search needs) (λ c. search needs)
+    returns-2
+    returns-3)

@@ -14,4 +14,6 @@ returns c =
 pub scion-write-headers-spec : {M : Type 1} → statement M
 scion-write-headers-spec =
     tie.close
-    (tie.spec (λ c κs. search needs) (λ c κs. search needs) (λ c κs. search needs) (λ c. search needs) returns)
+    (tie.spec
+    (λ c κs. search needs) (λ c κs. search needs) (λ c κs. search needs) (λ c. search needs)
+    returns)

@@ -9,4 +9,6 @@ returns c =
     rw (← call .before .before .new .ensures, ← call .copy-to-slice .ensures .0) (c .path-answer-out .ensures, call .copy-to-slice .ensures .1)
 
 pub scion-copy-path-spec : {M : Type 1} → statement M
-scion-copy-path-spec = tie.close (tie.spec (λ c κs. search needs) (λ c κs. search needs) (λ c κs. search needs) (λ c. search needs) returns)
+scion-copy-path-spec = tie.close (tie.spec
+    (λ c κs. search needs) (λ c κs. search needs) (λ c κs. search needs) (λ c. search needs)
+    returns)

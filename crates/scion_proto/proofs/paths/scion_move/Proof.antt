@@ -9,4 +9,6 @@ returns c =
     rw (← call .before .before .new .ensures, ← call .single-move .ensures .0) (c .path-answer-out .ensures, call .single-move .ensures .1)
 
 pub scion-move-spec : {M : Type 1} → statement M
-scion-move-spec = tie.close (tie.spec (λ c κs. search needs) (λ c κs. search needs) (λ c κs. search needs) (λ c. search needs) returns)
+scion-move-spec = tie.close (tie.spec
+    (λ c κs. search needs) (λ c κs. search needs) (λ c κs. search needs) (λ c. search needs)
+    returns)

@@ -9,4 +9,6 @@ returns c =
     rw (← call .before .before .new .ensures, ← call .reverse-to-slice .ensures .0) (c .path-answer-out .ensures, call .reverse-to-slice .ensures .1)
 
 pub scion-reverse-path-spec : {M : Type 1} → statement M
-scion-reverse-path-spec = tie.close (tie.spec (λ c κs. search needs) (λ c κs. search needs) (λ c κs. search needs) (λ c. search needs) returns)
+scion-reverse-path-spec = tie.close (tie.spec
+    (λ c κs. search needs) (λ c κs. search needs) (λ c κs. search needs) (λ c. search needs)
+    returns)

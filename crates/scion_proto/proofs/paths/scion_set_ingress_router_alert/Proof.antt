@@ -11,4 +11,6 @@ returns c =
 
 pub scion-set-ingress-router-alert-spec : {M : Type 1} → statement M
 scion-set-ingress-router-alert-spec =
-    tie.close (tie.spec (λ c κs. search needs) (λ c κs. search needs) (λ c κs. search needs) (λ c. search needs) returns)
+    tie.close (tie.spec
+    (λ c κs. search needs) (λ c κs. search needs) (λ c κs. search needs) (λ c. search needs)
+    returns)

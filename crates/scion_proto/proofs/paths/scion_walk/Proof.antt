@@ -9,4 +9,6 @@ returns c =
     rw (← call .before .before .new .ensures, ← call .walk .ensures .0) (c .walk-out .ensures, call .walk .ensures .1)
 
 pub scion-walk-spec : {M : Type 1} → statement M
-scion-walk-spec = tie.close (tie.spec (λ c κs. search needs) (λ c κs. search needs) (λ c κs. search needs) (λ c. search needs) returns)
+scion-walk-spec = tie.close (tie.spec
+    (λ c κs. search needs) (λ c κs. search needs) (λ c κs. search needs) (λ c. search needs)
+    returns)

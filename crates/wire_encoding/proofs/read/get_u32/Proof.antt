@@ -27,4 +27,9 @@ returns-2 : tie.Need-returns-2
 returns-2 c = truncated 4 _ _ (leb-false _ _ (sym (c .before .has-room .ensures) ∙ c .if1 .left))
 
 pub get-u32-spec : {M : Type 1} → statement M
-get-u32-spec = tie.close (tie.spec (λ c κs. search needs) read-big-endian-requires cast-t6 returns returns-2)
+get-u32-spec = tie.close (tie.spec
+    (λ c κs. search needs)
+    read-big-endian-requires
+    cast-t6
+    returns
+    returns-2)

@@ -14,4 +14,7 @@ returns-2 c = ap (λ (r : Result ℕ ℕ). orElse r 0) (rw (c .enum-told .given 
 
 pub u32-or-zero-spec : {M : Type 1} → statement M
 u32-or-zero-spec =
-    tie.close (tie.spec (λ c κs. search needs) (λ c. search needs) (λ c. search needs) returns returns-2)
+    tie.close (tie.spec
+    (λ c κs. search needs) (λ c. search needs) (λ c. search needs)
+    returns
+    returns-2)

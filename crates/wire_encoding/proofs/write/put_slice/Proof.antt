@@ -28,4 +28,9 @@ returns-2 c =
     rw (no-room (a .dst .now) (a .at) (a .src .now) _ refl (leb-false _ _ (sym (c .before .has-room .ensures) ∙ c .if1 .left))) (refl, refl)
 
 pub put-slice-spec : {M : Type 1} → statement M
-put-slice-spec = tie.close (tie.spec (λ c κs. search needs) write-bytes-requires (λ c. search needs) returns returns-2)
+put-slice-spec = tie.close (tie.spec
+    (λ c κs. search needs)
+    write-bytes-requires
+    (λ c. search needs)
+    returns
+    returns-2)

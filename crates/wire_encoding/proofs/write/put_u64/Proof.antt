@@ -25,4 +25,9 @@ returns-2 : tie.Need-returns-2
 returns-2 c = rw (no-room _ _ _ 8 (length-bytesOf 8 _) (leb-false _ _ (sym (c .before .has-room .ensures) ∙ c .if1 .left))) (refl, refl)
 
 pub put-u64-spec : {M : Type 1} → statement M
-put-u64-spec = tie.close (tie.spec (λ c κs. search needs) write-big-endian-requires (λ c. search needs) returns returns-2)
+put-u64-spec = tie.close (tie.spec
+    (λ c κs. search needs)
+    write-big-endian-requires
+    (λ c. search needs)
+    returns
+    returns-2)
