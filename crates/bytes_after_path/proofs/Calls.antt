@@ -21,7 +21,7 @@ use Rattle.path_fields.proofs.Fields.{info-left, hop-left}
 use Rattle.path_meta_header.specs.MetaHeader.{metaOf, infoFieldsCount, hopFieldsCount, segmentOf, segmentLength, firstHopField, infoStart, hopStart}
 use Rattle.path_meta_header.specs.MetaHeader.{pathLength, hopFieldOffset, hopFieldOf}
 use Rattle.path_meta_header.specs.declared.PathMetaHeader.{PathMetaHeader}
-use Rattle.path.specs.Standard.{infoAt, hopAt}
+use Rattle.path.specs.Standard.{infoAt}
 use Rattle.path.specs.Dataplane.{readDataplane, standard, infoFieldIn, hopFieldIn, segmentIn, alerted}
 use Rattle.path.proofs.Reading.{Readable, path-read, standard-read}
 use Rattle.path.proofs.Segment.{inside}
@@ -60,9 +60,6 @@ module _ (p t : List ℕ) (m : PathMetaHeader) (r : Readable p m) where
 
   pub info-after : (k : ℕ) → k < infoFieldsCount m → infoAt (p ++ t) k ≡ infoAt p k
   info-after k l = info-left p t (infoStart k) (omega (arith, whole))
-
-  pub hop-after : (j : ℕ) → j < hopFieldsCount m → hopAt (p ++ t) m j ≡ hopAt p m j
-  hop-after j l = hop-left p t (hopStart m j) (omega (arith, whole))
 
   -- EXPIRY
 
