@@ -26,7 +26,7 @@
 #include <stddef.h>
 #include <stdint.h>
 
-/* Raised whenever a struct or a call changes. Header and archive have to be of one version; examples/layout.c checks it. */
+/* Raised whenever a struct or a call changes. Header and archive have to be of one commit; examples/layout.c checks that they agree. */
 #define SCION_PROTO_VERSION 1
 
 #ifdef __cplusplus

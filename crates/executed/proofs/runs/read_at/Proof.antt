@@ -10,13 +10,17 @@ use Rattle.executed.proofs.runs.read_at.Tie as tie
 
 returns : tie.Need-returns
 returns c =
-    let run = c .before .before .before .before .before .before .args .left .now in
+    let printed = c .before .before in
+    let start = printed .before .before .before .before in
+    let run = start .args .left .now in
     let left : c .left-over .result ≡ length run - 12 = c .left-over .ensures ∙ ap length (c .before .after-first .ensures) ∙ length-drop 12 run in
     omega (arith, left)
 
 returns-2 : tie.Need-returns-2
 returns-2 c =
-    let run = c .before .before .before .before .before .before .args .left .now in
+    let printed = c .before .before in
+    let start = printed .before .before .before .before in
+    let run = start .args .left .now in
     let fewer : length run - 12 ≤ length run = omega arith in
     let left : c .left-over2 .result ≡ length run - 12
     = c .left-over2 .ensures ∙ ap length (c .before .before-last .ensures) ∙ length-take-le (length run - 12) run fewer in
