@@ -12,8 +12,8 @@
  * What is asked of the caller is memory, and nothing else:
  * - `bytes` points to `len` bytes that can be read, and written where it isn't const; so do `path` and `dst`. NULL with length 0
  *   will do.
- * - BUFFERS MUST NOT OVERLAP: in a call with a source and a destination, no byte may be in both. A path can't be copied or
- *   reversed in place: such a call answers 0 and leaves a wrong path.
+ * - BUFFERS MUST NOT OVERLAP: in a call with a source and a destination, no byte may be in both. A path can't be reversed in place:
+ *   such a call may answer 0 and leave a wrong path.
  * The calls keep nothing between them and share nothing, so threads may call at the same time on bytes that none of them changes.
  *
  * Numbers in structs are the machine's own; on the wire they are big-endian, which the library sees to. `start` of a field or part
