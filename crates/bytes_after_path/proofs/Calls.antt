@@ -13,26 +13,29 @@ use Rattle.wire_encoding.specs.Result.{Result, ok, refused, require, andThen, m
 use Rattle.wire_encoding.specs.BigEndian.{part, records}
 use Rattle.wire_encoding.specs.Bits.{withBit}
 use Rattle.wire_encoding.proofs.Lists.{part-left, set-left}
-use Rattle.wire_encoding.proofs.BigEndian.{number-left, records-left}
+use Rattle.wire_encoding.proofs.BigEndian.{records-left}
+use Rattle.errors.specs.declared.packet_error.DecodeError.{DecodeError}
 use Rattle.errors.specs.declared.path_error.PathError.{PathError}
 use Rattle.errors.specs.declared.path_error.PathError.the-variants.{NoSuchField}
 use Rattle.path_fields.specs.Fields.{expiryTime}
 use Rattle.path_fields.proofs.Fields.{info-left, hop-left}
-use Rattle.path_meta_header.specs.MetaHeader.{metaOf, infoFieldsCount, hopFieldsCount, segmentOf, segmentLength, firstHopField, infoStart, hopStart}
+use Rattle.path_meta_header.specs.MetaHeader.{infoFieldsCount, hopFieldsCount, segmentOf, segmentLength, firstHopField, infoStart, hopStart}
 use Rattle.path_meta_header.specs.MetaHeader.{pathLength, hopFieldOffset, hopFieldOf}
 use Rattle.path_meta_header.specs.declared.PathMetaHeader.{PathMetaHeader}
+use Rattle.path_meta_header.proofs.Segment.{inside}
+use Rattle.path_least_expiry.specs.Expiry.{hopExpiry, segmentExpiry, pathExpiry}
+use Rattle.path_least_expiry.proofs.Least.{least-same}
 use Rattle.path.specs.Standard.{infoAt}
-use Rattle.path.specs.Dataplane.{readDataplane, standard, infoFieldIn, hopFieldIn, segmentIn, alerted}
-use Rattle.path.proofs.Reading.{Readable, path-read, standard-read}
-use Rattle.path.proofs.Segment.{inside}
+use Rattle.path.specs.Dataplane.{Extent, readDataplane, dataplaneRead, pathOf, pathLeft, standard, infoFieldIn, hopFieldIn, segmentIn, alerted}
+use Rattle.path.proofs.Reading.{Readable, record-read, standard-read}
+use Rattle.path.proofs.Kept.{readable-within, within, path-alerted}
 use Rattle.path_hop_fields.specs.PathRuns.{hopFieldsIn}
-use Rattle.path_expiry.specs.Expiry.{hopExpiry, segmentExpiry, pathExpiry, segmentExpiryIn, expiryIn, timeLeftIn}
-use Rattle.path_expiry.proofs.ExpiryLaws.{least-same}
+use Rattle.path_expiry.specs.Expiry.{segmentExpiryIn, expiryIn, timeLeftIn}
 use Rattle.path_interfaces.specs.Interfaces.{Place, interfaceAt, interfacesIn, interfaceIn}
 use Rattle.path_interfaces.proofs.Interfaces.{interface-there}
 use Rattle.path_reverse.specs.Copy.{copy}
 use Rattle.path_reverse.specs.Reverse.{reversedRecords, flipped, same, reversedUnder, reversedPath, reversedBytes, reverse}
-use Rattle.bytes_after_path.specs.BytesAfterPath.{writtenBefore, ReadAlike, WrittenAlike}
+use Rattle.bytes_after_path.specs.BytesAfterPath.{before, ReadAlike, WrittenAlike}
 
 module _ (p t : List ℕ) (m : PathMetaHeader) (r : Readable p m) where
   whole : 4 + infoFieldsCount m * 8 + hopFieldsCount m * 12 ≤ length p
@@ -41,20 +44,30 @@ module _ (p t : List ℕ) (m : PathMetaHeader) (r : Readable p m) where
 
   -- READING
 
-  pub readable-after : Readable (p ++ t) m
-  readable-after =
-      record {
-        sound-meta = r .sound-meta;
-        whole = simp length-append (omega (arith, r .whole));
-        word = r .word ∙ ap metaOf (sym (number-left 4 p t 0 (omega (arith, whole))));
-      }
+  -- the path's bytes stand first
+  room : pathLength m ≤ length (p ++ t)
+  room = simp length-append (omega (arith, r .whole))
 
-  pub standard-after : standard 1 (p ++ t) ≡ standard 1 p
+  stays : (i : ℕ) → i < pathLength m → getD (p ++ t) i 0 ≡ getD p i 0
+  stays i l = List·getD-append p t 0 i (omega (arith, r .whole))
+
+  pub readable-after : Readable (p ++ t) m
+  readable-after = readable-within p (p ++ t) m r room stays
+
+  expiry-same : pathExpiry (p ++ t) m ≡ pathExpiry p m
+  expiry-same = within p (p ++ t) m r room stays
+
+  standard-after : standard 1 (p ++ t) ≡ standard 1 p
   standard-after = standard-read (p ++ t) m readable-after ∙ sym (standard-read p m r)
 
   reading-after : readDataplane 1 (p ++ t) ≡ readDataplane 1 p
   unfolding readDataplane
-  reading-after = rw (path-read (p ++ t) m readable-after, path-read p m r)
+  reading-after = rw (record-read (p ++ t) m readable-after, record-read p m r, expiry-same)
+
+  -- so the record is the same
+  pub path-after : pathOf 1 (p ++ t) ≡ pathOf 1 p
+  unfolding pathOf
+  path-after = ap (λ (found : Result DecodeError Extent). dataplaneRead found .path) reading-after
 
   -- FIELDS
 
@@ -70,10 +83,6 @@ module _ (p t : List ℕ) (m : PathMetaHeader) (r : Readable p m) where
       least-same _ _ (segmentLength m k - 1)
       (λ j h. ap₂ (λ info hop. expiryTime (info .timestamp) (hop .«exp_time»)) (info-after k l)
       (hop-left p t (hopStart m (firstHopField m k + j)) (omega (arith, lies .hops, lies .one))))
-
-  expiry-same : pathExpiry (p ++ t) m ≡ pathExpiry p m
-  unfolding pathExpiry
-  expiry-same = least-same _ _ (infoFieldsCount m - 1) (λ k h. segment-expiry-same k (omega (arith, r .sound-meta .info)))
 
   segment-expiry-after : (k : ℕ) → segmentExpiryIn 1 (p ++ t) k ≡ segmentExpiryIn 1 p k
   unfolding segmentExpiryIn
@@ -110,7 +119,7 @@ module _ (p t : List ℕ) (m : PathMetaHeader) (r : Readable p m) where
 
   copy-after : (dst : List ℕ) → copy 1 (p ++ t) dst ≡ copy 1 p dst
   unfolding copy readDataplane
-  copy-after dst = rw (path-read (p ++ t) m readable-after, path-read p m r, front-same)
+  copy-after dst = rw (record-read (p ++ t) m readable-after, record-read p m r, front-same)
 
   records-same : (f : List ℕ → List ℕ) (k n from : ℕ) → from + n * k ≤ length p
       → reversedRecords f k n (drop from (p ++ t)) ≡ reversedRecords f k n (drop from p)
@@ -129,11 +138,11 @@ module _ (p t : List ℕ) (m : PathMetaHeader) (r : Readable p m) where
 
   reverse-after : (dst : List ℕ) → reverse 1 (p ++ t) dst ≡ reverse 1 p dst
   unfolding reverse readDataplane reversedBytes
-  reverse-after dst = rw (path-read (p ++ t) m readable-after, path-read p m r, reversed-same)
+  reverse-after dst = rw (record-read (p ++ t) m readable-after, record-read p m r, reversed-same)
 
   -- ALERT FLAGS
 
-  pub alert-after : (bit : ℕ) (on : Bool) (j : ℕ) → alerted bit on 1 (p ++ t) j ≡ mapped (writtenBefore t) (alerted bit on 1 p j)
+  pub alert-after : (bit : ℕ) (on : Bool) (j : ℕ) → alerted bit on 1 (p ++ t) j ≡ mapped (before t) (alerted bit on 1 p j)
   unfolding alerted hopFieldOffset
   alert-after bit on j = rw (standard-read (p ++ t) m readable-after, standard-read p m r) (go (ltb j (hopFieldsCount m)) refl)
     where
@@ -142,13 +151,28 @@ module _ (p t : List ℕ) (m : PathMetaHeader) (r : Readable p m) where
 
       go : (there : Bool) → ltb j (hopFieldsCount m) ≡ there
           → andThen (require there NoSuchField (ok at))
-          (λ flags. ok (record { header = m; bytes = set (p ++ t) flags (withBit bit on (getD (p ++ t) flags 0)) }))
-          ≡ mapped (writtenBefore t) (andThen (require there NoSuchField (ok at))
-          (λ flags. ok (record { header = m; bytes = set p flags (withBit bit on (getD p flags 0)) })))
+          (λ flags. ok (set (p ++ t) flags (withBit bit on (getD (p ++ t) flags 0))))
+          ≡ mapped (before t) (andThen (require there NoSuchField (ok at)) (λ flags. ok (set p flags (withBit bit on (getD p flags 0)))))
       go true e =
           let l = ltb-true j (hopFieldsCount m) e in
           rw (List·getD-append p t 0 at (omega (arith, whole)), set-left p t at (withBit bit on (getD p at 0)) (omega (arith, whole)))
       go false e = refl
+
+  -- the record stays on both sides
+  pub alert-record-after : (bit : ℕ) (on : Bool) (j : ℕ) → pathLeft 1 (alerted bit on 1 (p ++ t) j) ≡ pathLeft 1 (alerted bit on 1 p j)
+  unfolding alerted
+  alert-record-after bit on j = rw (standard-read (p ++ t) m readable-after, standard-read p m r) (go (hopFieldOffset m j) refl)
+    where
+      flagged : List ℕ → ℕ → Result PathError (List ℕ)
+      flagged bytes flags = ok (set bytes flags (withBit bit on (getD bytes flags 0)))
+
+      go : (offset : Result PathError ℕ) → hopFieldOffset m j ≡ offset
+          → pathLeft 1 (andThen offset (flagged (p ++ t))) ≡ pathLeft 1 (andThen offset (flagged p))
+      go (ok flags) e =
+          path-alerted 1 (p ++ t) m j _ (standard-read (p ++ t) m readable-after) e
+          ∙ path-after
+          ∙ sym (path-alerted 1 p m j _ (standard-read p m r) e)
+      go (refused error) e = refl
 
   -- ALL OF THEM
 

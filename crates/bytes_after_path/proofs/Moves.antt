@@ -20,7 +20,7 @@ use Rattle.path_fields.specs.Fields.{peering}
 use Rattle.path_meta_header.specs.MetaHeader.{infoFieldsCount, hopFieldsCount, segmentOf, infoStart, hopStart}
 use Rattle.path_meta_header.specs.declared.PathMetaHeader.{PathMetaHeader}
 use Rattle.path.specs.Standard.{infoAt}
-use Rattle.path.specs.Dataplane.{standard}
+use Rattle.path.specs.Dataplane.{pathOf, pathLeft}
 use Rattle.path.proofs.Reading.{Readable, standard-read}
 use Rattle.path_moves.specs.Rules.{ownerOf, somePeering, peeringPath, peeringAllowed, movable}
 use Rattle.path_moves.specs.Moves.{CanMove, Way, codeOf, takesIn, moveBytes, isLast, move, moved, movedMeta, iterate, walkMoves, walk, walked}
@@ -28,8 +28,8 @@ use Rattle.path_moves.specs.Moves.{walkAnswer}
 use Rattle.path_moves.proofs.Rules.{known, owner-below}
 use Rattle.path_moves.proofs.Moves.{Standing, can-move, standing, moved-known}
 use Rattle.path_moves.proofs.Sums.{after}
-use Rattle.bytes_after_path.specs.BytesAfterPath.{wayBefore, ChangedAlike}
-use Rattle.bytes_after_path.proofs.Calls.{readable-after, standard-after, info-after, alert-after}
+use Rattle.bytes_after_path.specs.BytesAfterPath.{before, wayBefore, ChangedAlike}
+use Rattle.bytes_after_path.proofs.Calls.{readable-after, path-after, info-after, alert-after, alert-record-after}
 
 -- WHICH PATHS CAN BE MOVED
 
@@ -122,17 +122,17 @@ module _ (p t : List ℕ) (m : PathMetaHeader) (r : Readable p m) where
       go (ok m) e = step m e (isLast m (m .«current_hop_field»)) refl
       go (refused error) e = refusal error
 
-  one-move-after : move 1 (p ++ t) ≡ mapped (λ (after : List ℕ). after ++ t) (move 1 p)
-  one-move-after = by-move (λ x y. x ≡ mapped (λ (after : List ℕ). after ++ t) y) (λ m can. refl) (λ error. refl)
+  one-move-after : move 1 (p ++ t) ≡ mapped (before t) (move 1 p)
+  one-move-after = by-move (λ x y. x ≡ mapped (before t) y) (λ m can. refl) (λ error. refl)
 
   moved-after : moved 1 (p ++ t) ≡ moved 1 p ++ t
   unfolding moved
   moved-after = by-move (λ x y. orElse x (p ++ t) ≡ orElse y p ++ t) (λ m can. refl) (λ error. refl)
 
-  move-record-after : Bytes p → andThen (move 1 (p ++ t)) (standard 1) ≡ andThen (move 1 p) (standard 1)
+  move-record-after : Bytes p → pathLeft 1 (move 1 (p ++ t)) ≡ pathLeft 1 (move 1 p)
   move-record-after small =
-      by-move (λ x y. andThen x (standard 1) ≡ andThen y (standard 1))
-      (λ m can. standard-after (moveBytes p m) t (movedMeta p m) (moved-known p m can small .path)) (λ error. refl)
+      by-move (λ x y. pathLeft 1 x ≡ pathLeft 1 y)
+      (λ m can. path-after (moveBytes p m) t (movedMeta p m) (moved-known p m can small .path)) (λ error. refl)
 
 -- A WALK
 
@@ -149,11 +149,11 @@ module _ (p t : List ℕ) (small : Bytes p) (m : PathMetaHeader) (able : movable
   unfolding walkMoves
   walk-inside limit = omega (arith, known 1 p able .path .sound-meta .hop)
 
-  left-after : (limit : ℕ) → standard 1 (iterate (walkMoves m limit) (moved 1) p ++ t) ≡ standard 1 (iterate (walkMoves m limit) (moved 1) p)
+  left-after : (limit : ℕ) → pathOf 1 (iterate (walkMoves m limit) (moved 1) p ++ t) ≡ pathOf 1 (iterate (walkMoves m limit) (moved 1) p)
   left-after limit =
       let left = iterate (walkMoves m limit) (moved 1) p in
       let there = after p small m able (walkMoves m limit) (walk-inside limit) in
-      standard-after left t (there .left) (known 1 left (there .walking .able) .path)
+      path-after left t (there .left) (known 1 left (there .walking .able) .path)
 
 module _ (p t : List ℕ) (small : Bytes p) (m : PathMetaHeader) (r : Readable p m) (limit : ℕ) where
   abbrev gone : List ℕ → PathMetaHeader → Way
@@ -199,6 +199,7 @@ changed-alike p t small m r =
       moves = walk-after p t small m r;
       after-move = moved-after p t m r;
       after-walk = walked-after p t small m r;
+      alert-record = alert-record-after p t m r;
       move-record = move-record-after p t m r small;
       walk-record = walk-record-after p t small m r;
     }

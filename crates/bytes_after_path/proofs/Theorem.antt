@@ -1,7 +1,7 @@
 -- The theorem: what is read, what is written and what is changed, of a path with bytes after it.
 -- Assumes nothing.
 use Rattle.path.proofs.Reading.{readable}
-use Rattle.path_moves.proofs.Sums.{bytes-of}
+use Rattle.wire_encoding.proofs.Lists.{bytes-of}
 use Rattle.bytes_after_path.specs.BytesAfterPath.{BytesAfterPath}
 use Rattle.bytes_after_path.proofs.Calls.{read-alike, written-alike}
 use Rattle.bytes_after_path.proofs.Moves.{changed-alike}

@@ -5,11 +5,11 @@ use mathlib.Core.Path.{_≡_}
 use mathlib.Core.Bool.{Bool}
 use mathlib.Core.List.{List, _++_}
 use lib.ListN.{getD}
-use Rattle.wire_encoding.specs.Result.{ok, mapped, andThen}
+use Rattle.wire_encoding.specs.Result.{ok, mapped}
 use Rattle.path_meta_header.specs.declared.PathMetaHeader.{PathMetaHeader}
 use Rattle.path.specs.declared.standard.Part.{Part}
 use Rattle.path.specs.Standard.{readPath}
-use Rattle.path.specs.Dataplane.{Written, readDataplane, infoFieldIn, hopFieldIn, segmentIn, Among, partIn, alerted, standard}
+use Rattle.path.specs.Dataplane.{readDataplane, infoFieldIn, hopFieldIn, segmentIn, Among, partIn, pathLeft, alerted}
 use Rattle.path_hop_fields.specs.PathRuns.{hopFieldsIn}
 use Rattle.path_expiry.specs.Expiry.{segmentExpiryIn, expiryIn, timeLeftIn}
 use Rattle.path_interfaces.specs.Interfaces.{interfacesIn, interfaceIn}
@@ -17,9 +17,9 @@ use Rattle.path_reverse.specs.Copy.{copy}
 use Rattle.path_reverse.specs.Reverse.{reverse}
 use Rattle.path_moves.specs.Moves.{Way, move, moved, walk, walked, walkAnswer}
 
--- what was written, and the way that was walked, with t behind
-abbrev pub writtenBefore : List ℕ → Written → Written
-writtenBefore t w = record { header = w .header; bytes = w .bytes ++ t }
+-- bytes, and the way that was walked, with t behind
+abbrev pub before : List ℕ → List ℕ → List ℕ
+before t after = after ++ t
 
 abbrev pub wayBefore : List ℕ → Way → Way
 wayBefore t w = record { bytes = w .bytes ++ t; moves = w .moves; arrived = w .arrived }
@@ -45,12 +45,13 @@ pub record WrittenAlike (p t : List ℕ) : Type 0 where
 
 -- p ++ t is changed as p is, and t stays behind it; the record that is handed back is the same
 pub record ChangedAlike (p t : List ℕ) : Type 0 where
-  pub alert : (bit : ℕ) (on : Bool) (j : ℕ) → alerted bit on 1 (p ++ t) j ≡ mapped (writtenBefore t) (alerted bit on 1 p j)
-  pub one-move : move 1 (p ++ t) ≡ mapped (λ (after : List ℕ). after ++ t) (move 1 p)
+  pub alert : (bit : ℕ) (on : Bool) (j : ℕ) → alerted bit on 1 (p ++ t) j ≡ mapped (before t) (alerted bit on 1 p j)
+  pub one-move : move 1 (p ++ t) ≡ mapped (before t) (move 1 p)
   pub moves : (limit : ℕ) → walk 1 (p ++ t) limit ≡ mapped (wayBefore t) (walk 1 p limit)
   pub after-move : moved 1 (p ++ t) ≡ moved 1 p ++ t
   pub after-walk : (limit : ℕ) → walked 1 (p ++ t) limit ≡ walked 1 p limit ++ t
-  pub move-record : andThen (move 1 (p ++ t)) (standard 1) ≡ andThen (move 1 p) (standard 1)
+  pub alert-record : (bit : ℕ) (on : Bool) (j : ℕ) → pathLeft 1 (alerted bit on 1 (p ++ t) j) ≡ pathLeft 1 (alerted bit on 1 p j)
+  pub move-record : pathLeft 1 (move 1 (p ++ t)) ≡ pathLeft 1 (move 1 p)
   pub walk-record : (limit : ℕ) → walkAnswer 1 (walk 1 (p ++ t) limit) ≡ walkAnswer 1 (walk 1 p limit)
 
 -- for every path p of bytes that is read, and any t

@@ -5,6 +5,7 @@ use crate::meta_headers;
 use crate::packets;
 use crate::paths;
 use crate::print;
+use crate::records;
 use crate::runs;
 use crate::travel;
 use crate::values;
@@ -22,7 +23,7 @@ ghost use Prim.Native.Nat.{_<_};
 pub fn answer(line: &[u8]) {
     let number = words::call_of(
         line,
-        b"path bs locinfo bsn lochop bsn segment bsn segexp bsn pathexp bs left bsn ifcount bs iface bsn raw bs",
+        b"path bs locinfo bsn lochop bsn segment bsn segexp bsn pathexp bs left bsn ifcount bs iface bsn raw bs recordread bs recordviews bsn",
     );
     if number == 0 {
         answer_part(line);
@@ -48,7 +49,9 @@ fn read_at(number: usize, path: DataplanePath, bytes: &[u8], index: usize) {
         7 => paths::left(path, bytes, index as u64),
         8 => paths::ifcount(path, bytes),
         9 => paths::iface(path, bytes, index),
-        _ => paths::raw(path, bytes),
+        10 => paths::raw(path, bytes),
+        11 => records::read(path, bytes),
+        _ => records::views(path, bytes, index),
     }
 }
 
@@ -80,7 +83,7 @@ fn read_part(number: usize, path: DataplanePath, bytes: &[u8], index: usize) {
 fn answer_change(line: &[u8]) {
     let number = words::call_of(
         line,
-        b"alert bsnff move bs walk bsn put 2snh put 4snw put 8snn",
+        b"alert bsnff move bs walk bsn put 2snh put 4snw put 8snn recordalert bsnff recordmove bs recordwalk bsn",
     );
     if number == 0 {
         answer_write(line);
@@ -108,7 +111,14 @@ fn change(number: usize, line: &[u8], bytes: &mut [u8], index: usize) {
         // `put 4 B at n`: a 32-bit number written.
         5 => values::put(put_u32(bytes, index, words::u32_at(line, 4))),
         // `put 8 B at n`: a 64-bit number written.
-        _ => values::put(put_u64(bytes, index, words::u64_at(line, 4))),
+        6 => values::put(put_u64(bytes, index, words::u64_at(line, 4))),
+        7 => records::alert(line, bytes, index),
+        // `recordmove T B`: a single move.
+        8 => records::left(path_moves::single_move(
+            DataplanePath::new(words::u8_at(line, 1)),
+            bytes,
+        )),
+        _ => records::walk(line, bytes, index),
     }
 }
 
@@ -116,7 +126,7 @@ fn change(number: usize, line: &[u8], bytes: &mut [u8], index: usize) {
 fn answer_write(line: &[u8]) {
     let number = words::call_of(
         line,
-        b"copy bss turn bss encode bbbbbbs putaddress nnbhsbhss newaddr nnbhsbhss putcommon bbwbbhbbbhs new bnwbnnbhsbhsss write bbwbnnbhnnbhsbhsss",
+        b"copy bss turn bss encode bbbbbbs putaddress nnbhsbhss newaddr nnbhsbhss putcommon bbwbbhbbbhs new bnwbnnbhsbhsss write bbwbnnbhnnbhsbhsss recordcopy bss recordturn bss",
     );
     if number == 0 {
         answer_read(line);
@@ -160,7 +170,11 @@ fn write(number: usize, line: &[u8], bytes: &[u8], dst: &mut [u8]) {
         5 => packets::new_address(line, dst),
         6 => packets::put_common(line, dst),
         7 => packets::new(line, bytes, dst),
-        _ => packets::write(line, bytes, dst),
+        8 => packets::write(line, bytes, dst),
+        // `recordcopy T B D`: the path copied to a destination that holds D.
+        9 => records::left(copy_to_slice(path, bytes, dst)),
+        // `recordturn T B D`: the path reversed into a destination that holds D.
+        _ => records::left(reverse_to_slice(path, bytes, dst)),
     }
 }
 
@@ -168,7 +182,7 @@ fn write(number: usize, line: &[u8], bytes: &[u8], dst: &mut [u8]) {
 fn answer_read(line: &[u8]) {
     let number = words::call_of(
         line,
-        b"packet s common s meta s firsts s info s infodir sf hop s hopflags sff sides ss ends s parts s reads so",
+        b"packet s common s meta s firsts s info s infodir sf hop s hopflags sff sides ss ends s parts s reads so recordpacket s",
     );
     if number == 0 {
         answer_numbers(line);
@@ -193,7 +207,8 @@ fn read(number: usize, line: &[u8], bytes: &[u8]) {
         9 => fields::sides(line, bytes),
         10 => runs::ends(bytes),
         11 => runs::parts(bytes),
-        _ => runs::reads(bytes, words::word(line, 2)),
+        12 => runs::reads(bytes, words::word(line, 2)),
+        _ => records::packet(bytes),
     }
 }
 
@@ -201,7 +216,7 @@ fn read(number: usize, line: &[u8], bytes: &[u8]) {
 fn answer_numbers(line: &[u8]) {
     let number = words::call_of(
         line,
-        b"infobits f infodirs f hopbits f hopalerts ff expiry wb counts bbbbbb ifhop bbbn offset bbbn",
+        b"infobits f infodirs f hopbits f hopalerts ff expiry wb counts bbbbbb ifhop bbbn offset bbbn recordexp n recordleft nn",
     );
     match number {
         0 => answer_values(line),
@@ -210,7 +225,9 @@ fn answer_numbers(line: &[u8]) {
         5 => print::number(expiry(words::u32_at(line, 1), words::u8_at(line, 2))),
         6 => meta_headers::counts(line),
         7 => meta_headers::ifhop(line),
-        _ => meta_headers::offset(line),
+        8 => meta_headers::offset(line),
+        9 => records::expiry(line),
+        _ => records::time_left(line),
     }
 }
 

@@ -6,6 +6,7 @@ mod meta_headers;
 mod packets;
 mod paths;
 mod print;
+mod records;
 mod runs;
 mod travel;
 mod values;

@@ -16,7 +16,6 @@ use Rattle.wire_encoding.proofs.Lists.{length-part}
 use Rattle.errors.specs.declared.packet_error.Decoded.the-variants.{Accepted, Refused}
 use Rattle.errors.specs.declared.packet_error.DecodeError.{DecodeError}
 use Rattle.errors.specs.declared.packet_error.DecodeError.the-variants.{PacketEmptyOrTruncated, InconsistentPathLength}
-use Rattle.path.specs.Standard.{pathUnder}
 use Rattle.path.specs.Dataplane.{Extent, readDataplane, partIn}
 use Rattle.packet_common_header.specs.CommonHeader.{commonAt, factorOf, zeroCommon, readCommon, commonAnswer, headerLength}
 use Rattle.packet_common_header.specs.declared.CommonHeader.{CommonHeader}
@@ -153,7 +152,7 @@ module _ {bytes : List ℕ} {c : CommonHeader} {end : ℕ} {a : AddressHeader} {
           answer = Accepted;
           common = c;
           address = a;
-          path = pathUnder (read .header);
+          path = read .path;
           «path_part» = record { start = start; len = read .length };
           «payload_part» = record { start = end; len = c .«payload_length» };
         }

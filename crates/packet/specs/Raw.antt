@@ -7,9 +7,8 @@ use lib.Dec.{leb, eqb}
 use Rattle.wire_encoding.specs.Result.{Result, ok, require, _>>_, _>>=_, mapped, orElse}
 use Rattle.errors.specs.declared.packet_error.DecodeError.{DecodeError}
 use Rattle.errors.specs.declared.packet_error.DecodeError.the-variants.{PacketEmptyOrTruncated, InconsistentPathLength}
-use Rattle.path_meta_header.specs.MetaHeader.{metaOf}
-use Rattle.path_meta_header.specs.declared.PathMetaHeader.{PathMetaHeader}
-use Rattle.path.specs.Standard.{pathUnder}
+use Rattle.path.specs.Standard.{noPath}
+use Rattle.path.specs.declared.standard.StandardPath.{StandardPath}
 use Rattle.path.specs.Segment.{nowhere}
 use Rattle.path.specs.Dataplane.{readDataplane, partIn}
 use Rattle.path.specs.declared.standard.Part.{Part}
@@ -20,11 +19,11 @@ use Rattle.packet_common_header.specs.declared.CommonHeader.{CommonHeader}
 use Rattle.packet_address_header.specs.declared.AddressHeader.{AddressHeader}
 use Rattle.packet.specs.declared.raw.ScionPacketRaw.{ScionPacketRaw}
 
--- its headers, the header of its path, zero unless the path's type is 1, and the bytes of path and payload
+-- its headers, the record of its path, zeros unless the path's type is 1, and the bytes of path and payload
 pub record Packet : Type 0 where
   pub common : CommonHeader
   pub address : AddressHeader
-  pub path : PathMetaHeader
+  pub path : StandardPath
   pub path-bytes : List ℕ
   pub payload : List ℕ
 
@@ -39,7 +38,7 @@ readPacket bytes = do
   read ← readDataplane (c .«path_type») path
   require (eqb (read .length) (length path)) InconsistentPathLength
   require (leb (c .«payload_length») (length rest)) PacketEmptyOrTruncated
-  ok (record { common = c; address = a; path = read .header; path-bytes = path; payload = take (c .«payload_length») rest })
+  ok (record { common = c; address = a; path = read .path; path-bytes = path; payload = take (c .«payload_length») rest })
 
 -- where the path lies: after the other headers
 unfoldable pub pathPart : Packet → Part
@@ -51,7 +50,7 @@ payloadPart p = record { start = 12 + addressLength (p .address) + length (p .pa
 
 -- every field zero, and no bytes
 abbrev pub zeroPacket : Packet
-zeroPacket = record { common = zeroCommon; address = zeroAddress; path = metaOf 0; path-bytes = []; payload = [] }
+zeroPacket = record { common = zeroCommon; address = zeroAddress; path = noPath; path-bytes = []; payload = [] }
 
 -- as it is handed back; all zero where it is refused
 unfoldable pub packetAnswer : Result DecodeError Packet → ScionPacketRaw
@@ -61,7 +60,7 @@ packetAnswer r =
       answer = decodedOf r;
       common = p .common;
       address = p .address;
-      path = pathUnder (p .path);
+      path = p .path;
       «path_part» = orElse (mapped pathPart r) nowhere;
       «payload_part» = orElse (mapped payloadPart r) nowhere;
     }

@@ -7,8 +7,8 @@ use mathlib.Core.List.{List}
 use native.Mathlib.Omega.{arith}
 use lib.Dec.{leb, ltb, eqb}
 use lib.ListN.{length, getD, set}
-use borrow.Author.Tests.{leb-true, ltb-true, eqb-true, le-leb}
-use Rattle.wire_encoding.specs.Result.{Result, ok, refused, refusing}
+use borrow.Author.Tests.{leb-true, ltb-true, eqb-true, ne-eqb, le-leb}
+use Rattle.wire_encoding.specs.Result.{Result, ok, refused, orElse, refusing}
 use Rattle.wire_encoding.specs.BigEndian.{bigEndian, room}
 use Rattle.wire_encoding.specs.Bits.{withBit}
 use Rattle.wire_encoding.proofs.Result.{same-value, held, stepped, refusing-ok, either, refused-alike}
@@ -26,48 +26,81 @@ use Rattle.path.specs.declared.standard.PathRead.{PathRead}
 use Rattle.path.specs.declared.dataplane.PathAnswer.{PathAnswer}
 use Rattle.path.specs.declared.dataplane.DataplaneRead.{DataplaneRead}
 use Rattle.path.specs.declared.dataplane.Located.{Located}
-use Rattle.path.specs.Standard.{readPath, pathUnder, pathRead}
+use Rattle.path.specs.declared.standard.StandardPath.{StandardPath}
+use Rattle.path.specs.Standard.{readPath, pathUnder, noPath, readRecord, pathRead, beside}
 use Rattle.path.specs.Segment.{Fields, nowhere}
-use Rattle.path.specs.Dataplane.{Extent, headless, readStandard, readDataplane, dataplaneRead, standard, metaHeaderOf, pathAnswer, infoFieldIn}
-use Rattle.path.specs.Dataplane.{hopFieldIn, segmentIn, located, alerted, Among, ViewsInside}
-use Rattle.path.proofs.Segment as segments
+use Rattle.path.specs.Dataplane.{Extent, unread, readStandard, readDataplane, dataplaneRead, pathOf, NoRecord, standard, metaHeaderOf, pathAnswer}
+use Rattle.path.specs.Dataplane.{infoFieldIn, hopFieldIn, segmentIn, located, alerted, Among, ViewsInside}
+use Rattle.path_meta_header.proofs.Segment as segments
+
+-- A RECORD THAT WAS READ
+
+-- its header is the one that was read, and its expiry the rule's
+pub by-record : (bytes : List ℕ) {path : StandardPath} → readRecord bytes ≡ ok path
+    → (readPath bytes ≡ ok (path .«meta_header»)) × (path ≡ pathUnder bytes (path .«meta_header»))
+unfolding readRecord
+by-record bytes h =
+    let read = stepped (readPath bytes) _ h in
+    rw (← same-value (read .then)) (read .first, refl)
 
 -- WHAT AN ANSWER SAYS
 
 -- a caller of `StandardPath::decode`
-module _ (r : Result DecodeError PathMetaHeader) {read : PathRead} (is : read ≡ pathRead r) where
-  pub path-ok : read .answer ≡ decoded.Accepted → r ≡ ok (read .path .«meta_header»)
+module _ (bytes : List ℕ) {read : PathRead} (is : read ≡ pathRead (readRecord bytes)) where
+  pub record-ok : read .answer ≡ decoded.Accepted → readRecord bytes ≡ ok (read .path)
   unfolding pathRead
-  path-ok h = told.decoded-ok r (metaOf 0) (ap (λ (x : PathRead). x .answer) is) (ap (λ (x : PathRead). x .path .«meta_header») is) h
+  record-ok h = told.decoded-ok (readRecord bytes) noPath (ap (λ (x : PathRead). x .answer) is) (ap (λ (x : PathRead). x .path) is) h
 
-  pub path-refused : {error : DecodeError} → read .answer ≡ decoded.Refused error → r ≡ refused error
+  pub path-refused : {error : DecodeError} → read .answer ≡ decoded.Refused error → readRecord bytes ≡ refused error
   unfolding pathRead
-  path-refused h = told.decoded-refused r (ap (λ (x : PathRead). x .answer) is) h
+  path-refused h = told.decoded-refused (readRecord bytes) (ap (λ (x : PathRead). x .answer) is) h
 
 -- of `DataplanePath::decode`
 module _ (r : Result DecodeError Extent) {read : DataplaneRead} (is : read ≡ dataplaneRead r) where
-  pub read-ok : read .answer ≡ decoded.Accepted → r ≡ ok (record { header = read .path .«meta_header»; length = read .length })
+  pub read-ok : read .answer ≡ decoded.Accepted → r ≡ ok (record { path = read .path; length = read .length })
   unfolding dataplaneRead
   read-ok h =
-      told.decoded-ok r (headless 0) (ap (λ (x : DataplaneRead). x .answer) is)
-      (ap (λ (x : DataplaneRead). record { header = x .path .«meta_header»; length = x .length }) is) h
+      told.decoded-ok r (unread 0) (ap (λ (x : DataplaneRead). x .answer) is)
+      (ap (λ (x : DataplaneRead). record { path = x .path; length = x .length }) is) h
 
   pub read-refused : {error : DecodeError} → read .answer ≡ decoded.Refused error → r ≡ refused error
   unfolding dataplaneRead
   read-refused h = told.decoded-refused r (ap (λ (x : DataplaneRead). x .answer) is) h
 
--- of a call on a path
-module _ (r : Result PathError PathMetaHeader) {call : PathAnswer} (is : call ≡ pathAnswer r) where
-  pub answer-ok : call .answer ≡ answer.Accepted → r ≡ ok (call .path .«meta_header»)
-  unfolding pathAnswer
-  answer-ok h = told.answer-ok r (metaOf 0) (ap (λ (x : PathAnswer). x .answer) is) (ap (λ (x : PathAnswer). x .path .«meta_header») is) h
+pub path-given : (type : ℕ) (bytes : List ℕ) {read : DataplaneRead} → read ≡ dataplaneRead (readDataplane type bytes) → read .path ≡ pathOf type bytes
+unfolding pathOf
+path-given type bytes is = ap (λ (x : DataplaneRead). x .path) is
 
+-- no record but of a standard path that is read
+no-path : (type : ℕ) (bytes : List ℕ) → (type ≡ 1 → ⊥) → pathOf type bytes ≡ noPath
+unfolding pathOf dataplaneRead readDataplane
+no-path type bytes other = rw (ne-eqb type 1 other, pathOf) (go (eqb type 0))
+  where
+    go : (z : Bool) → dataplaneRead (cond z (ok (unread 0)) (ok (unread (length bytes)))) .path ≡ noPath
+    go true = refl
+    go false = refl
+
+pub no-record : NoRecord
+unfolding pathOf dataplaneRead
+no-record type bytes = (λ error h. rw (h, pathOf), no-path type bytes)
+
+-- of a call that leaves the bytes as they are
+module _ {A : Type 0} (path : StandardPath) (r : Result PathError A) {call : PathAnswer} (is : call ≡ pathAnswer path r) where
   pub answer-refused : {error : PathError} → call .answer ≡ answer.Refused error → r ≡ refused error
   unfolding pathAnswer
   answer-refused h = told.answer-refused r (ap (λ (x : PathAnswer). x .answer) is) h
 
+  -- where it is carried out there is a value, and the record is the path's
+  pub answer-value : (zero : A) → call .answer ≡ answer.Accepted → r ≡ ok (orElse r zero)
+  unfolding pathAnswer
+  answer-value zero h = told.answer-ok r zero (ap (λ (x : PathAnswer). x .answer) is) refl h
+
+  pub answer-path : (zero : A) → call .answer ≡ answer.Accepted → call .path ≡ path
+  unfolding pathAnswer
+  answer-path zero h = ap (λ (x : PathAnswer). x .path) is ∙ ap (λ (x : Result PathError A). beside path x) (answer-value zero h)
+
 -- of a view
-module _ (path : Result PathError PathMetaHeader) (r : Result PathError Part) {call : Located} (is : call ≡ located path r) where
+module _ (path : StandardPath) (r : Result PathError Part) {call : Located} (is : call ≡ located path r) where
   pub located-ok : call .answer ≡ answer.Accepted → r ≡ ok (call .part)
   unfolding located
   located-ok h = told.answer-ok r nowhere (ap (λ (x : Located). x .answer) is) (ap (λ (x : Located). x .part) is) h
@@ -77,9 +110,9 @@ module _ (path : Result PathError PathMetaHeader) (r : Result PathError Part) {c
   located-refused h = told.answer-refused r (ap (λ (x : Located). x .answer) is) h
 
   -- and the record beside it is the path's
-  pub located-path : {m : PathMetaHeader} → call .answer ≡ answer.Accepted → path ≡ ok m → call .path ≡ pathUnder m
+  pub located-path : call .answer ≡ answer.Accepted → call .path ≡ path
   unfolding located
-  located-path h e = ap (λ (x : Located). x .path) is ∙ rw (located-ok h, e)
+  located-path h = ap (λ (x : Located). x .path) is ∙ rw (located-ok h)
 
 -- A PATH THAT WAS READ
 
@@ -113,8 +146,13 @@ module _ (bytes : List ℕ) {m : PathMetaHeader} where
   unfolding standard readDataplane
   standard-readable type h =
       let read = stepped (refusing Decode (readDataplane 1 bytes)) _ (rw (standard-type type h) at h) in
-      let header = stepped (readPath bytes) _ (refusing-ok Decode (readDataplane 1 bytes) (read .first)) in
-      readable (header .first ∙ ap ok (ap (λ (r : Extent). r .header) (same-value (header .then)) ∙ same-value (read .then)))
+      let path = stepped (readRecord bytes) _ (refusing-ok Decode (readDataplane 1 bytes) (read .first)) in
+      let header = ap (λ (r : Extent). r .path .«meta_header») (same-value (path .then)) ∙ same-value (read .then) in
+      readable (by-record bytes (path .first) .0 ∙ ap ok header)
+
+-- and so is one by its record
+pub record-readable : (bytes : List ℕ) {path : StandardPath} → readRecord bytes ≡ ok path → Readable bytes (path .«meta_header»)
+record-readable bytes h = readable bytes (by-record bytes h .0)
 
 -- the other way round: such a path is read
 module _ (bytes : List ℕ) (m : PathMetaHeader) (r : Readable bytes m) where
@@ -126,14 +164,40 @@ module _ (bytes : List ℕ) (m : PathMetaHeader) (r : Readable bytes m) where
   unfolding readPath readMeta room
   path-read = rw (le-leb 4 (length bytes) four, ← r .word, sound-checked m (r .sound-meta), le-leb _ _ (r .whole))
 
+  pub record-read : readRecord bytes ≡ ok (pathUnder bytes m)
+  unfolding readRecord
+  record-read = rw path-read
+
   pub standard-read : standard 1 bytes ≡ ok m
   unfolding standard readDataplane
-  standard-read = rw path-read
+  standard-read = rw record-read
+
+  -- and its record is the one that reading hands back
+  pub path-of : pathOf 1 bytes ≡ pathUnder bytes m
+  unfolding pathOf dataplaneRead readDataplane
+  path-of = rw (record-read, pathOf)
 
   -- and its header is the one that reading hands back
   pub header-read : metaHeaderOf bytes ≡ m
   unfolding metaHeaderOf
   header-read = rw standard-read
+
+-- what a caller of `standard` knows
+module _ (type : ℕ) (bytes : List ℕ) where
+  pub standard-path : {m : PathMetaHeader} → standard type bytes ≡ ok m → pathOf type bytes ≡ pathUnder bytes m
+  standard-path {m} h = rw (standard-type bytes type h) (path-of bytes m (standard-readable bytes type h))
+
+  pub answer-ok : {call : PathAnswer} → call ≡ pathAnswer (pathOf type bytes) (standard type bytes) → call .answer ≡ answer.Accepted
+      → standard type bytes ≡ ok (call .path .«meta_header»)
+  answer-ok is h =
+      let some = answer-value (pathOf type bytes) (standard type bytes) is (metaOf 0) h in
+      some
+      ∙ ap ok (ap (λ (p : StandardPath). p .«meta_header») (sym (standard-path some) ∙ sym (answer-path (pathOf type bytes) (standard type bytes) is (metaOf 0) h)))
+
+  -- and its record is that of the path
+  pub record-is : {call : PathAnswer} → call ≡ pathAnswer (pathOf type bytes) (standard type bytes) → call .answer ≡ answer.Accepted
+      → call .path ≡ pathOf type bytes
+  record-is is h = answer-path (pathOf type bytes) (standard type bytes) is (metaOf 0) h
 
 -- WHERE THE PARTS LIE
 
@@ -144,12 +208,13 @@ module _ (bytes : List ℕ) where
   length-inside type = go (eqb type 0) (eqb type 1)
     where
       go : (z o : Bool)
-          → dataplaneRead (cond z (ok (headless 0)) (cond o (readStandard bytes) (ok (headless (length bytes))))) .length ≤ length bytes
+          → dataplaneRead (cond z (ok (unread 0)) (cond o (readStandard bytes) (ok (unread (length bytes))))) .length ≤ length bytes
       go true o = omega arith
       go false true =
-          either (λ (x : Extent). x .length ≤ length bytes) (readStandard bytes) (headless 0) (omega arith)
-          (λ x h. let m = stepped (readPath bytes) _ h in
-          omega (arith, readable bytes (m .first) .whole, ap (λ (r : Extent). r .length) (same-value (m .then))))
+          either (λ (x : Extent). x .length ≤ length bytes) (readStandard bytes) (unread 0) (omega arith)
+          (λ x h. let path = stepped (readRecord bytes) _ h in
+          let read = record-readable bytes (path .first) in
+          omega (arith, read .whole, ap (λ (r : Extent). r .length) (same-value (path .then))))
       go false false = omega arith
 
 -- a view lies among n bytes, and is of its size
@@ -209,7 +274,7 @@ module _ (bytes : List ℕ) (type : ℕ) where
   unfolding hopFieldIn alerted
   alerted-refused bit on j h =
       refused-alike (λ m. hopFieldOffset m j) (λ m start. record { start = start; len = 12 })
-      (λ m flags. record { header = m; bytes = set bytes flags (withBit bit on (getD bytes flags 0)) }) (standard type bytes) h
+      (λ m flags. set bytes flags (withBit bit on (getD bytes flags 0))) (standard type bytes) h
 
   segment-view : (k : ℕ) (v : Fields) → segmentIn type bytes k ≡ ok v → Among bytes (v .info) × Among bytes (v .hops)
   unfolding segmentIn

@@ -1,3 +1,4 @@
 pub mod Standard
 pub mod Segment
 pub mod Dataplane
+pub mod TimeLeft

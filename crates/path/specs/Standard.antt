@@ -3,7 +3,7 @@ use mathlib.Core.List.{List}
 use Prim.Native.Nat.{ℕ}
 use lib.ListN.{length}
 use lib.Dec.{leb}
-use Rattle.wire_encoding.specs.Result.{Result, ok, require, _>>_, _>>=_, orElse}
+use Rattle.wire_encoding.specs.Result.{Result, ok, require, _>>_, _>>=_, mapped, orElse}
 use Rattle.path_meta_header.specs.MetaHeader.{metaOf, infoStart, hopStart, pathLength, readMeta}
 use Rattle.path_meta_header.specs.declared.PathMetaHeader.{PathMetaHeader}
 use Rattle.path_fields.specs.Fields.{infoFieldAt, hopFieldAt}
@@ -12,6 +12,8 @@ use Rattle.path_fields.specs.declared.HopField.{HopField}
 use Rattle.errors.specs.Errors.{decodedOf}
 use Rattle.errors.specs.declared.packet_error.DecodeError.{DecodeError}
 use Rattle.errors.specs.declared.packet_error.DecodeError.the-variants.{PacketEmptyOrTruncated}
+use Rattle.errors.specs.declared.path_error.PathError.{PathError}
+use Rattle.path_least_expiry.specs.Expiry.{pathExpiry}
 use Rattle.path.specs.declared.standard.StandardPath.{StandardPath}
 use Rattle.path.specs.declared.standard.PathRead.{PathRead}
 
@@ -29,10 +31,23 @@ infoAt bytes k = infoFieldAt bytes (infoStart k)
 abbrev pub hopAt : List ℕ → PathMetaHeader → ℕ → HopField
 hopAt bytes m j = hopFieldAt bytes (hopStart m j)
 
--- the record of a path under a header
-abbrev pub pathUnder : PathMetaHeader → StandardPath
-pathUnder m = record { «meta_header» = m }
+-- THE RECORD of a path: its header, and when the path expires. It is made here alone
+abbrev pub pathUnder : List ℕ → PathMetaHeader → StandardPath
+pathUnder bytes m = record { «meta_header» = m; expiry = pathExpiry bytes m }
 
--- what a reader hands back: a record of zeros where it is refused
-unfoldable pub pathRead : Result DecodeError PathMetaHeader → PathRead
-pathRead r = record { answer = decodedOf r; path = pathUnder (orElse r (metaOf 0)) }
+-- zeros, where a path is refused or is not a standard path: an expiry of 0 is none
+abbrev pub noPath : StandardPath
+noPath = record { «meta_header» = metaOf 0; expiry = 0 }
+
+unfoldable pub readRecord : List ℕ → Result DecodeError StandardPath
+readRecord bytes = do
+  m ← readPath bytes
+  ok (pathUnder bytes m)
+
+-- what a reader hands back
+unfoldable pub pathRead : Result DecodeError StandardPath → PathRead
+pathRead r = record { answer = decodedOf r; path = orElse r noPath }
+
+-- the record beside what is found of the path: zeros where that is refused
+abbrev pub beside : {A : Type 0} → StandardPath → Result PathError A → StandardPath
+beside path r = orElse (mapped (λ _. path) r) noPath

@@ -15,12 +15,15 @@ use wire_encoding::flags::with_bit_1;
 use wire_encoding::read::part_of;
 ghost use mathlib.Core.Path.{_≡_};
 ghost use mathlib.Core.Bool.{cond};
+ghost use Prim.Native.Nat.{_≤_};
 ghost use lib.ListN.{length, take};
 ghost use Rattle.wire_encoding.specs.Result.{ok, refused, andThen};
 ghost use Rattle.wire_encoding.specs.Bits.{withBit};
 ghost use Rattle.path_meta_header.specs.MetaHeader.{offsetFound};
 ghost use Rattle.errors.specs.declared.path_error.Answer.the-variants as answers;
 ghost use Rattle.errors.specs.declared.path_error.PathError.the-variants as errors;
+ghost use Rattle.path_least_expiry.specs.Expiry.{largestExpiry};
+ghost use Rattle.path.specs.Standard.{noPath};
 ghost use Rattle.path.specs.Dataplane as spec;
 
 // A path that was read by its type: its record, zero unless the type is 1, and how many of the bytes are the path's.
@@ -61,7 +64,7 @@ fn with_alert(flags: u8, ingress: bool, enable: bool) -> u8
 impl DataplaneRead {
     // A path that needs no reading: `length` bytes of it.
     fn unread(length: usize) -> DataplaneRead
-        ensures { λ r. ⌜ r ≡ spec.dataplaneRead (ok (spec.headless length)) ⌝ }
+        ensures { λ r. ⌜ r ≡ spec.dataplaneRead (ok (spec.unread length)) ⌝ }
     {
         let path = StandardPath::zero();
         DataplaneRead {
@@ -95,7 +98,7 @@ impl PathAnswer {
     }
 
     pub fn refused(error: PathError) -> PathAnswer
-        ensures { λ r. ⌜ r ≡ spec.pathAnswer (refused error) ⌝ }
+        ensures { λ r. ⌜ r ≡ record { answer = answers.Refused error; path = noPath } ⌝ }
     {
         let path = StandardPath::zero();
         PathAnswer {
@@ -106,7 +109,7 @@ impl PathAnswer {
 
     // The refusal of a path that can't be read.
     pub fn not_read(error: DecodeError) -> PathAnswer
-        ensures { λ r. ⌜ r ≡ spec.pathAnswer (refused (errors.Decode error)) ⌝ }
+        ensures { λ r. ⌜ r ≡ record { answer = answers.Refused (errors.Decode error); path = noPath } ⌝ }
     {
         PathAnswer::refused(PathError::Decode(error))
     }
@@ -125,7 +128,7 @@ impl Located {
     }
 
     pub fn refused(error: PathError) -> Located
-        ensures { λ r. ⌜ r ≡ spec.located (refused error) (refused error) ⌝ }
+        ensures { λ r. ⌜ r ≡ spec.located noPath (refused error) ⌝ }
     {
         let path = StandardPath::zero();
         Located {
@@ -138,7 +141,7 @@ impl Located {
     // `len` bytes from an offset on.
     fn at(path: StandardPath, offset: Offset, len: usize) -> Located
         ensures { λ r. ⌜ r
-            ≡ spec.located (ok (path .«meta_header»)) (andThen (offsetFound offset) (λ start. ok (record { start = start; len = len }))) ⌝ }
+            ≡ spec.located path (andThen (offsetFound offset) (λ start. ok (record { start = start; len = len }))) ⌝ }
     {
         match offset {
             Offset::At(start) => Located::accepted(path, start, len),
@@ -163,6 +166,7 @@ impl DataplanePath {
     // Reads a path of this type: an empty one has no bytes, an opaque one is all of them.
     pub fn decode(self, bytes: &[u8]) -> DataplaneRead
         ensures { λ r. ⌜ r ≡ spec.dataplaneRead (spec.readDataplane (self .«path_type») (now (bytes .entry))) ⌝ }
+        ensures { λ r. ⌜ r .path .expiry ≤ largestExpiry ⌝ }
     {
         if self.path_type == DataplanePath::EMPTY {
             return DataplaneRead::unread(0);
@@ -194,7 +198,8 @@ impl DataplanePath {
 
     // Reading, then the refusal of every type but 1: where the calls on standard paths begin.
     pub fn standard(self, bytes: &[u8]) -> PathAnswer
-        ensures { λ r. ⌜ r ≡ spec.pathAnswer (spec.standard (self .«path_type») (now (bytes .entry))) ⌝ }
+        ensures { λ r. ⌜ r
+            ≡ spec.pathAnswer (spec.pathOf (self .«path_type») (now (bytes .entry))) (spec.standard (self .«path_type») (now (bytes .entry))) ⌝ }
     {
         let read = self.decode(bytes);
         let answer = read.answer;
@@ -210,7 +215,7 @@ impl DataplanePath {
     // Where info field `index` lies.
     pub fn locate_info_field(self, bytes: &[u8], index: usize) -> Located
         ensures { λ r. ⌜ r
-            ≡ spec.located (spec.standard (self .«path_type») (now (bytes .entry)))
+            ≡ spec.located (spec.pathOf (self .«path_type») (now (bytes .entry)))
             (spec.infoFieldIn (self .«path_type») (now (bytes .entry)) index) ⌝ }
     {
         let read = self.standard(bytes);
@@ -229,7 +234,7 @@ impl DataplanePath {
     // Where hop field `index` lies.
     pub fn locate_hop_field(self, bytes: &[u8], index: usize) -> Located
         ensures { λ r. ⌜ r
-            ≡ spec.located (spec.standard (self .«path_type») (now (bytes .entry)))
+            ≡ spec.located (spec.pathOf (self .«path_type») (now (bytes .entry)))
             (spec.hopFieldIn (self .«path_type») (now (bytes .entry)) index) ⌝ }
     {
         let read = self.standard(bytes);
@@ -249,7 +254,7 @@ impl DataplanePath {
     pub fn info_field(self, bytes: &[u8], index: usize) -> &[u8]
         ensures { λ r. ⌜ now r
             ≡ spec.partIn (now (bytes .entry))
-            (spec.located (spec.standard (self .«path_type») (now (bytes .entry)))
+            (spec.located (spec.pathOf (self .«path_type») (now (bytes .entry)))
             (spec.infoFieldIn (self .«path_type») (now (bytes .entry)) index)
             .part) ⌝ }
     {
@@ -261,7 +266,7 @@ impl DataplanePath {
     pub fn hop_field(self, bytes: &[u8], index: usize) -> &[u8]
         ensures { λ r. ⌜ now r
             ≡ spec.partIn (now (bytes .entry))
-            (spec.located (spec.standard (self .«path_type») (now (bytes .entry)))
+            (spec.located (spec.pathOf (self .«path_type») (now (bytes .entry)))
             (spec.hopFieldIn (self .«path_type») (now (bytes .entry)) index)
             .part) ⌝ }
     {
@@ -272,7 +277,7 @@ impl DataplanePath {
     // Segment `index`: where its info field and its hop fields lie.
     pub fn segment(self, bytes: &[u8], index: usize) -> Segment
         ensures { λ r. ⌜ r
-            ≡ spec.segment (spec.standard (self .«path_type») (now (bytes .entry)))
+            ≡ spec.segment (spec.pathOf (self .«path_type») (now (bytes .entry)))
             (spec.segmentIn (self .«path_type») (now (bytes .entry)) index) ⌝ }
     {
         let read = self.standard(bytes);
@@ -306,7 +311,7 @@ impl DataplanePath {
     pub fn segment_hop_fields(self, bytes: &[u8], index: usize) -> &[u8]
         ensures { λ r. ⌜ now r
             ≡ spec.partIn (now (bytes .entry))
-            (spec.segment (spec.standard (self .«path_type») (now (bytes .entry))) (spec.segmentIn (self .«path_type») (now (bytes .entry)) index)
+            (spec.segment (spec.pathOf (self .«path_type») (now (bytes .entry))) (spec.segmentIn (self .«path_type») (now (bytes .entry)) index)
             .«hop_fields») ⌝ }
     {
         let part = self.segment(bytes, index).hop_fields;
@@ -315,7 +320,8 @@ impl DataplanePath {
 
     // Sets or clears an alert flag of hop field `index`.
     fn set_alert(self, bytes: &mut [u8], index: usize, ingress: bool, enable: bool) -> PathAnswer
-        ensures { λ r. ⌜ r ≡ spec.writtenAnswer (spec.alerted (cond ingress 1 0) enable (self .«path_type») (now (bytes .entry)) index) ⌝ }
+        ensures { λ r. ⌜ r
+            ≡ spec.writtenAnswer (self .«path_type») (spec.alerted (cond ingress 1 0) enable (self .«path_type») (now (bytes .entry)) index) ⌝ }
         ensures { λ _. ⌜ now (bytes .exit)
             ≡ spec.contents (spec.alerted (cond ingress 1 0) enable (self .«path_type») (now (bytes .entry)) index) (now (bytes .entry)) ⌝ }
     {
@@ -337,7 +343,7 @@ impl DataplanePath {
         index: usize,
         enable: bool,
     ) -> PathAnswer
-        ensures { λ r. ⌜ r ≡ spec.writtenAnswer (spec.alerted 1 enable (self .«path_type») (now (bytes .entry)) index) ⌝ }
+        ensures { λ r. ⌜ r ≡ spec.writtenAnswer (self .«path_type») (spec.alerted 1 enable (self .«path_type») (now (bytes .entry)) index) ⌝ }
         ensures { λ _. ⌜ now (bytes .exit)
             ≡ spec.contents (spec.alerted 1 enable (self .«path_type») (now (bytes .entry)) index) (now (bytes .entry)) ⌝ }
     {
@@ -351,7 +357,7 @@ impl DataplanePath {
         index: usize,
         enable: bool,
     ) -> PathAnswer
-        ensures { λ r. ⌜ r ≡ spec.writtenAnswer (spec.alerted 0 enable (self .«path_type») (now (bytes .entry)) index) ⌝ }
+        ensures { λ r. ⌜ r ≡ spec.writtenAnswer (self .«path_type») (spec.alerted 0 enable (self .«path_type») (now (bytes .entry)) index) ⌝ }
         ensures { λ _. ⌜ now (bytes .exit)
             ≡ spec.contents (spec.alerted 0 enable (self .«path_type») (now (bytes .entry)) index) (now (bytes .entry)) ⌝ }
     {

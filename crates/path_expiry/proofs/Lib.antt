@@ -1,1 +1,1 @@
-pub mod ExpiryLaws
+pub mod Asked

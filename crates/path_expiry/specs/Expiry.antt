@@ -1,43 +1,21 @@
--- Expiry in ms: of a hop field, of a segment, of a path; and the time left.
-use Prim.Native.Nat.{ℕ, zero, suc, _+_, _*_, _-_, min}
+-- The expiry of a path and of its segments, and the time left, by the path's bytes: reading, 8, 10.
+use Prim.Native.Nat.{ℕ, _<_}
+use mathlib.Core.Path.{_≡_}
 use mathlib.Core.List.{List}
 use lib.ListN.{getD}
-use lib.IntN.{ℤ, pos, subℕ}
+use lib.IntN.{ℤ, subℕ}
 use lib.Dec.{ltb, leb}
-use Rattle.wire_encoding.specs.Result.{Result, ok, require, _>>_, _>>=_, orElse}
-use Rattle.path_meta_header.specs.MetaHeader.{infoFieldsCount, firstHopField, segmentLength, infoStart, hopStart}
-use Rattle.path_meta_header.specs.declared.PathMetaHeader.{PathMetaHeader}
-use Rattle.path_fields.specs.Fields.{infoFieldAt, hopFieldAt, expiryTime}
+use Rattle.wire_encoding.specs.Result.{Result, ok, require, andThen, _>>_, _>>=_, mapped, orElse}
+use Rattle.path_meta_header.specs.MetaHeader.{infoFieldsCount}
 use Rattle.errors.specs.Errors.{answerOf}
 use Rattle.errors.specs.declared.path_error.PathError.{PathError}
 use Rattle.errors.specs.declared.path_error.PathError.the-variants.{NoSuchField, NumberTooWide}
-use Rattle.path.specs.Dataplane.{standard, beside}
+use Rattle.path_least_expiry.specs.Expiry.{segmentExpiry, pathExpiry}
+use Rattle.path.specs.Standard.{beside}
+use Rattle.path.specs.TimeLeft.{largestTime, timeLeftOf}
+use Rattle.path.specs.Dataplane.{standard, pathOf}
+use Rattle.path.specs.declared.standard.StandardPath.{StandardPath}
 use Rattle.path_expiry.specs.declared.Expiry.{Expiry}
-use Rattle.path_expiry.specs.declared.TimeLeft.{TimeLeft}
-
--- the least of f 0, f 1, .. f last
-unfoldable pub least : (ℕ → ℕ) → ℕ → ℕ
-least f zero = f 0
-least f (suc last) = min (least f last) (f (suc last))
-
--- the expiry byte of hop field j of a run of hop fields at `at`
-abbrev pub expTimeAt : List ℕ → ℕ → ℕ → ℕ
-expTimeAt bytes at j = getD bytes (at + j * 12 + 1) 0
-
--- the expiry of hop field j of segment k
-unfoldable pub hopExpiry : List ℕ → PathMetaHeader → ℕ → ℕ → ℕ
-hopExpiry bytes m k j =
-    expiryTime (infoFieldAt bytes (infoStart k) .timestamp) (hopFieldAt bytes (hopStart m (firstHopField m k + j)) .«exp_time»)
-
--- of segment k: the least of its hop fields'
-unfoldable pub segmentExpiry : List ℕ → PathMetaHeader → ℕ → ℕ
-segmentExpiry bytes m k = least (hopExpiry bytes m k) (segmentLength m k - 1)
-
--- of the path: the least of its segments'
-unfoldable pub pathExpiry : List ℕ → PathMetaHeader → ℕ
-pathExpiry bytes m = least (segmentExpiry bytes m) (infoFieldsCount m - 1)
-
--- THE CALLS
 
 -- of segment k; 8 where there is none
 unfoldable pub segmentExpiryIn : ℕ → List ℕ → ℕ → Result PathError ℕ
@@ -55,12 +33,17 @@ expiryIn type bytes = do
 unfoldable pub timeLeftIn : ℕ → List ℕ → ℕ → Result PathError ℤ
 timeLeftIn type bytes now = do
   expiry ← expiryIn type bytes
-  require (leb now 9000000000000) NumberTooWide
+  require (leb now largestTime) NumberTooWide
   ok (subℕ expiry now)
 
--- what is handed back, beside the record of the path: all zero where it is refused
-unfoldable pub expiryFound : Result PathError PathMetaHeader → Result PathError ℕ → Expiry
-expiryFound path r = record { answer = answerOf r; path = beside path r; ms = orElse r 0 }
+-- a theorem: both are what the record tells that reading hands back. It is bounded, so the record's own bound refuses none of these
+abbrev pub AskedOfTheRecord : Type 0
+AskedOfTheRecord =
+    (type : ℕ) (bytes : List ℕ) → ((i : ℕ) → getD bytes i 0 < 256)
+    → let record-of = mapped (λ _. pathOf type bytes) (standard type bytes) in
+    (expiryIn type bytes ≡ mapped (λ (path : StandardPath). path .expiry) record-of)
+    × ((now : ℕ) → timeLeftIn type bytes now ≡ andThen record-of (λ path. timeLeftOf path now))
 
-unfoldable pub timeLeftFound : Result PathError PathMetaHeader → Result PathError ℤ → TimeLeft
-timeLeftFound path r = record { answer = answerOf r; path = beside path r; ms = orElse r (pos 0) }
+-- what is handed back of an expiry, beside the record of the path: all zero where it is refused
+unfoldable pub expiryFound : StandardPath → Result PathError ℕ → Expiry
+expiryFound path r = record { answer = answerOf r; path = beside path r; ms = orElse r 0 }

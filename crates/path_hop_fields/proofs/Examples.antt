@@ -25,5 +25,5 @@ pub path-run : (dataplane.partIn path (orElse (runs.hopFieldsIn 1 path) nowhere)
     × (runs.hopFieldsIn 1 (take 55 path) ≡ refused (Decode PacketEmptyOrTruncated)))
 unfolding bigEndian room runs.hopFieldsIn
     meta.nthField meta.metaOf meta.infoFieldsCount meta.hopFieldsCount meta.segmentOf meta.pathLength meta.lengthsValid meta.infoValid meta.hopValid
-    meta.checked meta.readMeta standard.readPath dataplane.readDataplane dataplane.standard
+    meta.checked meta.readMeta standard.readPath standard.readRecord dataplane.readDataplane dataplane.standard
 path-run = (refl, (refl, refl))

@@ -8,12 +8,12 @@ use path::dataplane::Located;
 use path_fields::HopField;
 use wire_encoding::read::part_of;
 ghost use mathlib.Core.Path.{_≡_};
-ghost use Rattle.path.specs.Dataplane.{standard, located, partIn};
+ghost use Rattle.path.specs.Dataplane.{pathOf, located, partIn};
 ghost use Rattle.path_hop_fields.specs.PathRuns as spec;
 
 // Where the hop fields of a standard path lie, all of them.
 pub fn locate(path: DataplanePath, bytes: &[u8]) -> Located
-    ensures { λ r. ⌜ r ≡ located (standard (path .«path_type») (now (bytes .entry))) (spec.hopFieldsIn (path .«path_type») (now (bytes .entry))) ⌝ }
+    ensures { λ r. ⌜ r ≡ located (pathOf (path .«path_type») (now (bytes .entry))) (spec.hopFieldsIn (path .«path_type») (now (bytes .entry))) ⌝ }
 {
     let read = path.standard(bytes);
     let answer = read.answer;
@@ -32,7 +32,7 @@ pub fn locate(path: DataplanePath, bytes: &[u8]) -> Located
 pub fn hop_fields(path: DataplanePath, bytes: &[u8]) -> &[u8]
     ensures { λ r. ⌜ now r
         ≡ partIn (now (bytes .entry))
-        (located (standard (path .«path_type») (now (bytes .entry))) (spec.hopFieldsIn (path .«path_type») (now (bytes .entry))) .part) ⌝ }
+        (located (pathOf (path .«path_type») (now (bytes .entry))) (spec.hopFieldsIn (path .«path_type») (now (bytes .entry))) .part) ⌝ }
 {
     let part = locate(path, bytes).part;
     part_of(bytes, part.start, part.len)

@@ -12,8 +12,9 @@ use Rattle.path_fields.specs.declared.Interface.{Interface}
 use Rattle.path_fields.specs.declared.Interface.the-variants as interface
 use Rattle.errors.specs.Errors.{answerOf}
 use Rattle.errors.specs.declared.path_error.PathError.{PathError}
-use Rattle.path.specs.Dataplane.{standard, beside}
-use Rattle.path.specs.Standard.{infoAt, hopAt}
+use Rattle.path.specs.Dataplane.{standard}
+use Rattle.path.specs.Standard.{infoAt, hopAt, beside}
+use Rattle.path.specs.declared.standard.StandardPath.{StandardPath}
 use Rattle.path_interfaces.specs.declared.InterfaceCount.{InterfaceCount}
 use Rattle.path_interfaces.specs.declared.InterfaceAt.{InterfaceAt}
 
@@ -41,10 +42,10 @@ interfaceIn type bytes i = do
   ok (record { hop = j; interface = interfaceAt bytes m j i })
 
 -- what is handed back, beside the record of the path: all zero where it is refused
-unfoldable pub interfaceCount : Result PathError PathMetaHeader → Result PathError ℕ → InterfaceCount
+unfoldable pub interfaceCount : StandardPath → Result PathError ℕ → InterfaceCount
 interfaceCount path r = record { answer = answerOf r; path = beside path r; count = orElse r 0 }
 
-unfoldable pub interfaceFound : Result PathError PathMetaHeader → Result PathError Place → InterfaceAt
+unfoldable pub interfaceFound : StandardPath → Result PathError Place → InterfaceAt
 interfaceFound path r =
     let found = orElse r (record { hop = 0; interface = interface.None }) in
     record { answer = answerOf r; path = beside path r; «hop_field» = found .hop; interface = found .interface }

@@ -12,7 +12,8 @@ ghost use mathlib.Core.Path.{_≡_};
 ghost use Rattle.wire_encoding.specs.Result.{refused};
 ghost use Rattle.path_meta_header.specs.MetaHeader as meta;
 ghost use Rattle.errors.specs.declared.path_error.Answer.the-variants as answers;
-ghost use Rattle.path.specs.Dataplane.{standard};
+ghost use Rattle.path.specs.Standard.{noPath};
+ghost use Rattle.path.specs.Dataplane.{pathOf};
 ghost use Rattle.path_interfaces.specs.Interfaces as spec;
 
 // The number of interfaces; all zero where it was refused.
@@ -43,7 +44,7 @@ impl InterfaceCount {
     }
 
     fn refused(error: PathError) -> InterfaceCount
-        ensures { λ r. ⌜ r ≡ spec.interfaceCount (refused error) (refused error) ⌝ }
+        ensures { λ r. ⌜ r ≡ spec.interfaceCount noPath (refused error) ⌝ }
     {
         let path = StandardPath::zero();
         InterfaceCount {
@@ -67,7 +68,7 @@ impl InterfaceAt {
     }
 
     fn refused(error: PathError) -> InterfaceAt
-        ensures { λ r. ⌜ r ≡ spec.interfaceFound (refused error) (refused error) ⌝ }
+        ensures { λ r. ⌜ r ≡ spec.interfaceFound noPath (refused error) ⌝ }
     {
         let path = StandardPath::zero();
         InterfaceAt {
@@ -99,7 +100,7 @@ fn interface_at(bytes: &[u8], meta_header: PathMetaHeader, hop: usize, index: us
 // The number of interfaces on the path.
 pub fn interfaces_count(path: DataplanePath, bytes: &[u8]) -> InterfaceCount
     ensures { λ r. ⌜ r
-        ≡ spec.interfaceCount (standard (path .«path_type») (now (bytes .entry))) (spec.interfacesIn (path .«path_type») (now (bytes .entry))) ⌝ }
+        ≡ spec.interfaceCount (pathOf (path .«path_type») (now (bytes .entry))) (spec.interfacesIn (path .«path_type») (now (bytes .entry))) ⌝ }
 {
     let read = path.standard(bytes);
     let answer = read.answer;
@@ -112,7 +113,7 @@ pub fn interfaces_count(path: DataplanePath, bytes: &[u8]) -> InterfaceCount
 // Interface `index` in the order of travel, and its hop field: its egress where the index is even, else its ingress.
 pub fn interface(path: DataplanePath, bytes: &[u8], index: usize) -> InterfaceAt
     ensures { λ r. ⌜ r
-        ≡ spec.interfaceFound (standard (path .«path_type») (now (bytes .entry)))
+        ≡ spec.interfaceFound (pathOf (path .«path_type») (now (bytes .entry)))
         (spec.interfaceIn (path .«path_type») (now (bytes .entry)) index) ⌝ }
 {
     let read = path.standard(bytes);

@@ -1,17 +1,18 @@
 -- The lengths in opposite order, row by row: none, one, two or three of them. They count as many fields, and hop field N − 1 − j of
--- the one lies in segment I − 1 − k where hop field j of the other lies in segment k; by cases on one, two or three segments.
+-- the one lies in segment I − 1 − k where hop field j of the other lies in segment k, so segment k of the one is segment I − 1 − k of
+-- the other, counted from its end; by cases on one, two or three segments.
 -- Assumes nothing.
 use mathlib.Core.Path.{_≡_, refl, sym}
 use mathlib.Core.Bool.{Bool, true, false, cond}
 use mathlib.Core.List.{List, [], _∷_, _++_, reverse}
-use Prim.Native.Nat.{ℕ, _+_, _-_, _≤_, _<_}
+use Prim.Native.Nat.{ℕ, zero, suc, _+_, _-_, _≤_, _<_}
 use native.Mathlib.Omega.{arith}
 use lib.ListN.{length, getD, take, replicate}
 use lib.Dec.{eqb}
 use borrow.Author.Tests.{eq-eqb, ne-eqb}
 use Rattle.wire_encoding.proofs.Lists.{by-lt}
 use Rattle.path_meta_header.specs.declared.PathMetaHeader.{PathMetaHeader}
-use Rattle.path_meta_header.specs.MetaHeader.{segmentLength, infoFieldsCount, hopFieldsCount, segmentOf, lengthsValid}
+use Rattle.path_meta_header.specs.MetaHeader.{segmentLength, infoFieldsCount, hopFieldsCount, segmentOf, firstHopField, lengthsValid}
 use Rattle.path_meta_header.specs.Reversal.{reversedLengths}
 use Rattle.path_meta_header.proofs.MetaHeader.{Lengths, Segments, one, two, three, segments, in-first, in-second, in-third}
 
@@ -150,3 +151,20 @@ rows-segment m t n (row-three x y z p q r e) j l =
     (λ h. by-lt j (segmentLength m 0 + segmentLength m 1)
     (λ s. omega (arith, in-second m j h s, in-second t i (omega arith) (omega arith)))
     (λ s. omega (arith, in-third m j s, in-first t i (omega arith))))
+
+-- segment k is as long as segment n − 1 − k of the other, and begins where that ends, counted from the other end
+pub record Runs (m t : PathMetaHeader) (k k′ : ℕ) : Type 0 where
+  pub long : segmentLength t k ≡ segmentLength m k′
+  pub apart : firstHopField t k + firstHopField m k′ + segmentLength m k′ ≡ hopFieldsCount m
+
+pub rows-run : (m t : PathMetaHeader) (n : ℕ) → RowsOf m t n → (k : ℕ) → k < n → Runs m t k (n - 1 - k)
+unfolding firstHopField hopFieldsCount
+rows-run m t n (row-one x y z p q r e) zero l = rw e (record { long = p; apart = omega arith })
+rows-run m t n (row-one x y z p q r e) (suc k) l = absurd (omega arith)
+rows-run m t n (row-two x y z p q r e) zero l = rw e (record { long = p; apart = omega arith })
+rows-run m t n (row-two x y z p q r e) (suc zero) l = rw e (record { long = q; apart = omega arith })
+rows-run m t n (row-two x y z p q r e) (suc (suc k)) l = absurd (omega arith)
+rows-run m t n (row-three x y z p q r e) zero l = rw e (record { long = p; apart = omega arith })
+rows-run m t n (row-three x y z p q r e) (suc zero) l = rw e (record { long = q; apart = omega arith })
+rows-run m t n (row-three x y z p q r e) (suc (suc zero)) l = rw e (record { long = r; apart = omega arith })
+rows-run m t n (row-three x y z p q r e) (suc (suc (suc k))) l = absurd (omega arith)

@@ -3,5 +3,6 @@ pub mod Moves
 pub mod Fields
 pub mod Walks
 pub mod Sums
+pub mod Expiry
 pub mod Accumulators
 pub mod Examples

@@ -20,8 +20,10 @@ use Rattle.path_fields.specs.Fields.{infoFieldAt}
 use Rattle.path_meta_header.specs.MetaHeader as meta
 use Rattle.path_meta_header.specs.declared.PathMetaHeader.{PathMetaHeader}
 use Rattle.path.specs.Standard.{infoAt}
-use Rattle.path.specs.Dataplane.{standard}
-use Rattle.path.proofs.Reading.{standard-read}
+use Rattle.path_least_expiry.specs.Expiry.{pathExpiry}
+use Rattle.path_least_expiry.proofs.Kept.{expiry-same, expiry-lengths}
+use Rattle.path.specs.Dataplane.{pathOf}
+use Rattle.path.proofs.Kept.{path-kept}
 use Rattle.path_meta_header.proofs.MetaHeader.{Sound, counted, segment-below}
 use Rattle.path_moves.proofs.Rules.{Known, known}
 use Rattle.path_moves.specs.declared.Position.{Position}
@@ -286,9 +288,19 @@ module _ (bytes : List ℕ) (m : PathMetaHeader) (can : spec.CanMove bytes m) wh
         peering = peering-moved;
       }
 
-  -- and is read under the header that the move leaves
-  pub read-moved : Bytes bytes → standard 1 after ≡ ok left
-  read-moved b = standard-read after left (moved-known b .path)
+  -- it expires when it did: no timestamp and no expiry byte was written
+  pub expiry-moved : pathExpiry after left ≡ pathExpiry bytes m
+  unfolding spec.movedMeta spec.atPosition
+  expiry-moved =
+      expiry-lengths after m left refl
+      ∙ expiry-same bytes after m
+      (λ k l i a b. stays-beside bytes m i (λ e. omega arith) (λ e. omega arith) (λ e. omega arith))
+      (λ j l. stays-beside bytes m (meta.hopStart m j + 1) (λ e. omega arith) (λ e. omega (arith, standing .info)) (λ e. omega (arith, standing .info)))
+      (able .path .sound-meta)
+
+  -- so it is read with the header that the move leaves and the expiry that was stored
+  pub path-moved : Bytes bytes → pathOf 1 after ≡ record { «meta_header» = left; expiry = pathExpiry bytes m }
+  path-moved b = path-kept bytes after m left (able .path) (moved-known b .path) expiry-moved
 
   -- a single move, of type 1
   pub one-move : spec.move 1 bytes ≡ ok after

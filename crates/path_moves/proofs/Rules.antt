@@ -2,7 +2,7 @@
 -- the same owner from either end, spared or not.
 -- Assumes nothing.
 use Prim.Native.Nat.{ℕ, zero, suc, _+_, _-_, _≤_, _<_}
-use mathlib.Core.Path.{_≡_, refl, sym, ap₂, _∙_}
+use mathlib.Core.Path.{_≡_, refl, sym, ap, ap₂, _∙_}
 use mathlib.Core.Bool.{Bool, true, false, cond, not, _&&_, _||_, and-eq-true-iff}
 use mathlib.Core.List.{List}
 use native.Mathlib.Omega.{arith}
@@ -13,13 +13,15 @@ use Rattle.wire_encoding.proofs.Result.{held, stepped}
 use Rattle.wire_encoding.proofs.Lists.{by-lt}
 use Rattle.path_fields.specs.Fields.{constructedDir, peering}
 use Rattle.path_fields.specs.declared.InfoField.{InfoField}
-use Rattle.path_meta_header.specs.MetaHeader.{infoFieldsCount, hopFieldsCount}
+use Rattle.path_meta_header.specs.MetaHeader.{metaOf, infoFieldsCount, hopFieldsCount}
 use Rattle.path_meta_header.specs.declared.PathMetaHeader.{PathMetaHeader}
 use Rattle.errors.specs.declared.path_error.Answer.the-variants.{Accepted}
-use Rattle.path.specs.Standard.{infoAt}
-use Rattle.path.specs.Dataplane.{standard, pathAnswer}
+use Rattle.path_least_expiry.specs.Expiry.{pathExpiry}
+use Rattle.path.specs.Standard.{infoAt, pathUnder}
+use Rattle.path.specs.Dataplane.{standard, pathOf, pathAnswer}
+use Rattle.path.specs.declared.standard.StandardPath.{StandardPath}
 use Rattle.path.specs.declared.dataplane.PathAnswer.{PathAnswer}
-use Rattle.path.proofs.Reading.{Readable, answer-ok, standard-type, standard-readable, standard-read}
+use Rattle.path.proofs.Reading.{Readable, answer-value, answer-path, standard-path, standard-type, standard-readable, standard-read}
 use Rattle.path_moves.specs.Rules.{ownerOf, spared, somePeering, peeringPath, peeringAllowed, movable}
 
 pub record Known (bytes : List ℕ) (m : PathMetaHeader) : Type 0 where
@@ -32,6 +34,13 @@ module _ (type : ℕ) (bytes : List ℕ) {m : PathMetaHeader} (h : movable type 
   pub type-one : type ≡ 1
   unfolding movable
   type-one = standard-type bytes type (stepped (standard type bytes) _ h .first)
+
+  pub movable-standard : standard type bytes ≡ ok m
+  unfolding movable
+  movable-standard =
+      let read = stepped (standard type bytes) _ h in
+      let few = held (leb (hopFieldsCount (read .value)) 64) _ _ (read .then) in
+      read .first ∙ held (peeringAllowed bytes (read .value)) _ _ (few .1) .1
 
   pub known : Known bytes m
   unfolding movable
@@ -48,12 +57,26 @@ unfolding movable
 known-movable bytes m k = rw (standard-read bytes m (k .path), le-leb _ _ (k .few), k .peering)
 
 -- as a function that called `movable` knows it
-pub goes-on : (type : ℕ) (bytes : List ℕ) {r : PathAnswer} → r ≡ pathAnswer (movable type bytes) → r .answer ≡ Accepted
-    → (type ≡ 1) × (movable 1 bytes ≡ ok (r .path .«meta_header»))
-goes-on type bytes e h =
-    let able = answer-ok _ e h in
-    let one = type-one type bytes able in
-    (one, rw one at able)
+module _ (type : ℕ) (bytes : List ℕ) {r : PathAnswer} (is : r ≡ pathAnswer (pathOf type bytes) (movable type bytes)) (h : r .answer ≡ Accepted) where
+  -- its record is that of the path
+  movable-path : (m : PathMetaHeader) → movable type bytes ≡ ok m → r .path ≡ pathUnder bytes m
+  movable-path m able =
+      answer-path (pathOf type bytes) (movable type bytes) is (metaOf 0) h ∙ standard-path type bytes (movable-standard type bytes able)
+
+  pub movable-ok : movable type bytes ≡ ok (r .path .«meta_header»)
+  movable-ok =
+      let able = answer-value (pathOf type bytes) (movable type bytes) is (metaOf 0) h in
+      able ∙ ap ok (sym (ap (λ (path : StandardPath). path .«meta_header») (movable-path _ able)))
+
+  pub goes-on : (type ≡ 1) × (movable 1 bytes ≡ ok (r .path .«meta_header»)) × (r .path .expiry ≡ pathExpiry bytes (r .path .«meta_header»))
+  goes-on =
+      let one = type-one type bytes movable-ok in
+      (one, rw one at movable-ok, ap (λ (path : StandardPath). path .expiry) (movable-path _ movable-ok))
+
+  pub goes-on-stored : r .path .expiry ≡ pathOf 1 bytes .expiry
+  goes-on-stored =
+      let stored = ap (λ (path : StandardPath). path .expiry) (answer-path (pathOf type bytes) (movable type bytes) is (metaOf 0) h) in
+      rw (goes-on .0) at stored
 
 -- PEERING
 

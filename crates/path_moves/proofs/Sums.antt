@@ -11,7 +11,7 @@ use lib.Bits.{bitXor}
 use lib.ListN.{getD, set}
 use Rattle.wire_encoding.specs.BigEndian.{bigEndian, bytesOf}
 use Rattle.wire_encoding.proofs.BigEndian.{bytes-bytesOf}
-use Rattle.wire_encoding.proofs.Lists.{Bytes, bytes-set, bytes-sets}
+use Rattle.wire_encoding.proofs.Lists.{Bytes, bytes-of, bytes-set, bytes-sets}
 use Rattle.path_meta_header.specs.MetaHeader.{hopFieldsCount, infoStart}
 use Rattle.path_meta_header.specs.declared.PathMetaHeader.{PathMetaHeader}
 use Rattle.wire_encoding.specs.Result.{Result, ok, refused}
@@ -126,10 +126,6 @@ sums bytes small type a b = go (movable type bytes) refl
     go : (r : Result PathError PathMetaHeader) → movable type bytes ≡ r → CountAdds type bytes a b × BytesAdd type bytes a b
     go (ok m) e = let one = type-one type bytes e in rw one (sums-movable bytes small m (rw one at e) a b)
     go (refused error) e = rw e (rw e (refl, refl))
-
--- a list of bytes, as a slice's rule gives it
-pub bytes-of : (bytes : List ℕ) → ((i : ℕ) → getD bytes i 0 < 256) → Bytes bytes
-bytes-of bytes small i = omega (arith, small i)
 
 pub walks-add : WalksAdd
 walks-add bytes small type a b = sums bytes (bytes-of bytes small) type a b .1

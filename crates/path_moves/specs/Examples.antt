@@ -75,11 +75,11 @@ met bytes n =
     let there = walked 1 bytes n in
     infoOf there (metaHeaderOf there .«current_hop_field») .accumulator
 
--- what a walk reports: the answer's number, the moves, the hop pointer
+-- what a walk reports: the answer's number, the moves, the hop pointer, the expiry
 unfoldable pub reported : List ℕ → ℕ → List ℕ
 reported bytes limit =
     let answer = walkAnswer 1 (walk 1 bytes limit) in
-    answerNumber (answer .answer) ∷ answer .moves ∷ answer .path .«meta_header» .«current_hop_field» ∷ []
+    answerNumber (answer .answer) ∷ answer .moves ∷ answer .path .«meta_header» .«current_hop_field» ∷ answer .path .expiry ∷ []
 
 -- the owner is the first hop field in construction direction, the second against it
 abbrev pub FirstBytes : Type 0
@@ -101,7 +101,7 @@ AccumulatorsMet =
 abbrev pub WalksReported : Type 0
 WalksReported =
     map (reported peered) (0 ∷ 3 ∷ 5 ∷ 18446744073709551615 ∷ [])
-    ≡ (0 ∷ 0 ∷ 0 ∷ []) ∷ (0 ∷ 3 ∷ 3 ∷ []) ∷ (0 ∷ 5 ∷ 5 ∷ []) ∷ (0 ∷ 5 ∷ 5 ∷ []) ∷ []
+    ≡ (0 ∷ 0 ∷ 0 ∷ 338500 ∷ []) ∷ (0 ∷ 3 ∷ 3 ∷ 338500 ∷ []) ∷ (0 ∷ 5 ∷ 5 ∷ 338500 ∷ []) ∷ (0 ∷ 5 ∷ 5 ∷ 338500 ∷ []) ∷ []
 
 abbrev pub Computed : Type 0
 Computed = FirstBytes × AccumulatorsMet × WalksReported

@@ -17,7 +17,7 @@ use Rattle.errors.specs.Errors.{answerOf}
 use Rattle.errors.specs.declared.path_error.PathError.{PathError}
 use Rattle.errors.specs.declared.path_error.PathError.the-variants.{AtLastHopField}
 use Rattle.path.specs.Standard.{infoAt}
-use Rattle.path.specs.Dataplane.{standard, metaHeaderOf, beside}
+use Rattle.path.specs.Dataplane.{metaHeaderOf, pathLeft, KeepsExpiry}
 use Rattle.path_moves.specs.Rules.{ownerOf, spared, movable}
 use Rattle.path_moves.specs.declared.Position.{Position}
 use Rattle.path_moves.specs.declared.Moved.{Moved}
@@ -96,7 +96,7 @@ walkCount type bytes limit = orElse (mapped (λ (w : Way). w .moves) (walk type 
 unfoldable pub walkAnswer : ℕ → Result PathError Way → WalkAnswer
 walkAnswer type r =
     let way = orElse r (record { bytes = []; moves = 0; arrived = false }) in
-    record { answer = answerOf r; path = beside (standard type (way .bytes)) r; moves = way .moves; arrived = way .arrived }
+    record { answer = answerOf r; path = pathLeft type (mapped (λ (w : Way). w .bytes) r); moves = way .moves; arrived = way .arrived }
 
 -- WHAT HOP FIELD i MEETS BY THE PATH ALONE
 
@@ -131,6 +131,12 @@ AllElseStays =
     → (takesIn bytes m (m .«current_info_field») (m .«current_hop_field») ≡ true
     → (j ≡ infoStart (m .«current_info_field») + 2 → ⊥) × (j ≡ infoStart (m .«current_info_field») + 3 → ⊥))
     → getD after j 0 ≡ getD bytes j 0)
+
+-- a move leaves no timestamp and no expiry byte changed, and so the path's expiry; and so does a walk
+abbrev pub MovesKeepExpiry : Type 0
+MovesKeepExpiry =
+    (bytes : List ℕ) → ((i : ℕ) → getD bytes i 0 < 256)
+    → KeepsExpiry bytes (move 1 bytes) × ((limit : ℕ) → KeepsExpiry bytes (mapped (λ (w : Way). w .bytes) (walk 1 bytes limit)))
 
 -- a walk of a + b moves is a walk of a and then one of b: it leaves the same bytes
 abbrev pub WalksAdd : Type 0

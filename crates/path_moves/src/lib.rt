@@ -15,9 +15,9 @@ ghost use Prim.Native.Nat.{_+_, _≤_, _<_};
 ghost use Rattle.path.specs.Standard.{infoAt};
 ghost use lib.ListN.{length};
 ghost use Rattle.path_meta_header.specs.MetaHeader.{pathLength, infoStart};
-ghost use Rattle.path.specs.Dataplane.{pathAnswer, standard};
+ghost use Rattle.path.specs.Dataplane.{pathOf, pathAnswer, writtenAnswer};
 ghost use Rattle.path_moves.specs.Rules as rules;
-ghost use Rattle.wire_encoding.specs.Result.{ok, refused, andThen};
+ghost use Rattle.wire_encoding.specs.Result.{ok, refused};
 ghost use Rattle.path_moves.specs.Moves as spec;
 
 // Info field `k`, which is there.
@@ -73,7 +73,8 @@ fn peering_allowed(bytes: &[u8], meta_header: PathMetaHeader) -> bool
 
 // Reading, 8 for every type but 1, then 13 for too many hop fields and 14 for peering: where moves and walks begin.
 pub fn movable(path: DataplanePath, bytes: &[u8]) -> PathAnswer
-    ensures { λ r. ⌜ r ≡ pathAnswer (rules.movable (path .«path_type») (now (bytes .entry))) ⌝ }
+    ensures { λ r. ⌜ r
+        ≡ pathAnswer (pathOf (path .«path_type») (now (bytes .entry))) (rules.movable (path .«path_type») (now (bytes .entry))) ⌝ }
 {
     let read = path.standard(bytes);
     let answer = read.answer;
@@ -241,8 +242,7 @@ fn step(bytes: &mut [u8], meta_header: PathMetaHeader) -> PathMetaHeader
 
 // One move on lent bytes: the hop pointer gains 1, the info pointer names the new segment, the accumulator takes the owner's code in.
 pub fn single_move(path: DataplanePath, bytes: &mut [u8]) -> PathAnswer
-    ensures { λ r. ⌜ r
-        ≡ pathAnswer (andThen (spec.move (path .«path_type») (now (bytes .entry))) (standard (path .«path_type»))) ⌝ }
+    ensures { λ r. ⌜ r ≡ writtenAnswer (path .«path_type») (spec.move (path .«path_type») (now (bytes .entry))) ⌝ }
     ensures { λ _. ⌜ now (bytes .exit) ≡ spec.moved (path .«path_type») (now (bytes .entry)) ⌝ }
 {
     let read = movable(path, bytes);
@@ -255,14 +255,18 @@ pub fn single_move(path: DataplanePath, bytes: &mut [u8]) -> PathAnswer
         return PathAnswer::refused(PathError::AtLastHopField);
     }
     let left = step(bytes, meta_header);
-    PathAnswer::accepted(StandardPath { meta_header: left })
+    PathAnswer::accepted(StandardPath {
+        meta_header: left,
+        expiry: read.path.expiry,
+    })
 }
 
 // Moves until the last hop field or the limit.
 fn steps(bytes: &mut [u8], start: PathMetaHeader, limit: usize) -> Walked
     requires { ⌜ rules.movable 1 (now bytes) ≡ ok start ⌝ }
     ensures { λ r. ⌜ r .moves ≡ spec.walkMoves start limit ⌝ }
-    ensures { λ r. ⌜ standard 1 (spec.iterate (r .moves) (spec.moved 1) (now (bytes .entry))) ≡ ok (r .«meta_header») ⌝ }
+    ensures { λ r. ⌜ pathOf 1 (spec.iterate (r .moves) (spec.moved 1) (now (bytes .entry)))
+        ≡ record { «meta_header» = r .«meta_header»; expiry = pathOf 1 (now (bytes .entry)) .expiry } ⌝ }
     ensures { λ r. ⌜ now (bytes .exit) ≡ spec.iterate (r .moves) (spec.moved 1) (now (bytes .entry)) ⌝ }
 {
     let count = start.hop_fields_count();
@@ -296,7 +300,10 @@ pub fn walk(path: DataplanePath, bytes: &mut [u8], limit: usize) -> WalkAnswer
     let left = walked.meta_header;
     WalkAnswer {
         answer: Answer::Accepted,
-        path: StandardPath { meta_header: left },
+        path: StandardPath {
+            meta_header: left,
+            expiry: read.path.expiry,
+        },
         moves,
         arrived: wide(start.current_hop_field) + moves + 1 == start.hop_fields_count(),
     }

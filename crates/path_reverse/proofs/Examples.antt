@@ -58,6 +58,6 @@ pub examples : (dataplane.contents (reverse.reverse 1 one-segment (replicate 36 
 unfolding one-segment two-segments three-segments one-segment-reversed two-segments-reversed three-segments-reversed bigEndian bytesOf room withBit
     meta.nthField meta.metaOf meta.infoFieldsCount meta.hopFieldsCount meta.segmentOf meta.pathLength meta.lengthsValid meta.infoValid meta.hopValid
     meta.checked meta.readMeta encoding.wordOf reversal.atStart reversal.reversedLengths reversal.reversedMeta standard.readPath
-    dataplane.readDataplane copy.into copy.copy flatMap records reverse.reversedRecords reverse.flipped reverse.same reverse.reversedUnder
-    reverse.reversedPath reverse.reversedBytes reverse.reverse
+    standard.readRecord dataplane.readDataplane copy.into copy.copy flatMap records reverse.reversedRecords reverse.flipped reverse.same
+    reverse.reversedUnder reverse.reversedPath reverse.reversedBytes reverse.reverse
 examples = (refl, (refl, (refl, (refl, refl))))

@@ -3,3 +3,4 @@ pub mod Examples
 pub mod Reverse
 pub mod Reversed
 pub mod Twice
+pub mod Expiry

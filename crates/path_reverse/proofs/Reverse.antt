@@ -19,17 +19,17 @@ use Rattle.wire_encoding.proofs.Lists.{length-part, part-join, written-after, s
 use Rattle.wire_encoding.proofs.BigEndian.{length-bytesOf}
 use Rattle.wire_encoding.proofs.Writes.{lent-run, placed-is}
 use Rattle.path_meta_header.specs.MetaHeader.{nthField, metaOf, infoFieldsCount, hopFieldsCount, pathLength}
-use Rattle.path_meta_header.specs.Reversal.{atStart, reversedLengths, reversedMeta}
+use Rattle.path_meta_header.specs.Reversal.{atStart, reversedMeta}
 use Rattle.path_meta_header.proofs.Reversal.{rowOf, row-is}
 use Rattle.path_meta_header.specs.Encoding.{metaFits, wordOf}
 use Rattle.path_meta_header.specs.declared.PathMetaHeader.{PathMetaHeader}
 use Rattle.errors.specs.declared.packet_error.DecodeError.{DecodeError}
 use Rattle.errors.specs.declared.path_error.PathError.the-variants.{Decode, InadequateBufferSize}
-use Rattle.wire_encoding.specs.Result.{Result, ok, refused, andThen, refusing}
-use Rattle.path.specs.Standard.{readPath}
-use Rattle.path.specs.Dataplane.{Extent, headless, readDataplane}
-use Rattle.path.proofs.Reading.{Readable, readable}
-use Rattle.path_reverse.specs.Copy.{into, copy}
+use Rattle.wire_encoding.specs.Result.{ok, refused}
+use Rattle.path.specs.Standard.{readRecord}
+use Rattle.path.specs.Dataplane.{readDataplane}
+use Rattle.path.proofs.Reading.{Readable, record-read}
+use Rattle.path_reverse.specs.Copy.{copy}
 use Rattle.path_reverse.proofs.Copy.{into-exact, into-other}
 use Rattle.path_reverse.specs.Reverse.{reversedRecords, flipped, same, reversedUnder, reversedPath, reversedBytes, reverse, Reversible}
 
@@ -252,39 +252,25 @@ reversible {bytes} r e = record {
 
 -- THE CALL
 
--- a header of zeros reversed
-zero-reversed : reversedMeta (metaOf 0) ≡ metaOf 0
-unfolding reversedMeta reversedLengths atStart infoFieldsCount metaOf nthField
-zero-reversed = refl
-
 -- a path that is not standard is copied
 pub reverse-copies : (type : ℕ) (bytes dst : List ℕ) → (type ≡ 1 → ⊥) → reverse type bytes dst ≡ copy type bytes dst
-unfolding reverse copy reversedBytes readDataplane
-reverse-copies type bytes dst other = rw (ne-eqb type 1 other) (go (eqb type 0))
-  where
-    opaque : Bool → Result DecodeError Extent
-    opaque empty = cond empty (ok (headless 0)) (ok (headless (length bytes)))
-
-    go : (empty : Bool)
-        → andThen (refusing Decode (opaque empty)) (λ read. into type (reversedMeta (read .header)) (take (read .length) bytes) dst)
-        ≡ andThen (refusing Decode (opaque empty)) (λ read. into type (read .header) (take (read .length) bytes) dst)
-    go true = rw zero-reversed
-    go false = rw zero-reversed
+unfolding reverse copy reversedBytes
+reverse-copies type bytes dst other = rw (ne-eqb type 1 other)
 
 -- a standard path, by what reading finds and by the size
 module _ (bytes dst : List ℕ) where
-  pub reverse-refused : {error : DecodeError} → readPath bytes ≡ refused error → reverse 1 bytes dst ≡ refused (Decode error)
+  pub reverse-refused : {error : DecodeError} → readRecord bytes ≡ refused error → reverse 1 bytes dst ≡ refused (Decode error)
   unfolding reverse readDataplane
   reverse-refused h = rw h
 
-  module _ {m : PathMetaHeader} (read : readPath bytes ≡ ok m) where
+  module _ {m : PathMetaHeader} (r : Readable bytes m) where
     long : length (reversedPath m bytes) ≡ pathLength m
-    long = length-reversedPath m bytes (readable bytes read .whole)
+    long = length-reversedPath m bytes (r .whole)
 
-    pub reverse-exact : length dst ≡ pathLength m → reverse 1 bytes dst ≡ ok (record { header = reversedMeta m; bytes = reversedPath m bytes })
+    pub reverse-exact : length dst ≡ pathLength m → reverse 1 bytes dst ≡ ok (reversedPath m bytes)
     unfolding reverse reversedBytes readDataplane
-    reverse-exact h = rw (read, into-exact 1 (λ e. omega arith) (reversedMeta m) (reversedPath m bytes) dst (h ∙ sym long))
+    reverse-exact h = rw (record-read bytes m r, into-exact 1 (λ e. omega arith) (reversedPath m bytes) dst (h ∙ sym long))
 
     pub reverse-other : (length dst ≡ pathLength m → ⊥) → reverse 1 bytes dst ≡ refused InadequateBufferSize
     unfolding reverse reversedBytes readDataplane
-    reverse-other h = rw (read, into-other 1 (λ e. omega arith) (reversedMeta m) (reversedPath m bytes) dst (λ e. h (e ∙ long)))
+    reverse-other h = rw (record-read bytes m r, into-other 1 (λ e. omega arith) (reversedPath m bytes) dst (λ e. h (e ∙ long)))

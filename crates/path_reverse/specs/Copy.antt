@@ -5,18 +5,21 @@ use mathlib.Core.List.{List}
 use lib.ListN.{length, take}
 use lib.Dec.{eqb}
 use Rattle.wire_encoding.specs.Result.{Result, ok, require, _>>_, _>>=_, refusing}
-use Rattle.path_meta_header.specs.declared.PathMetaHeader.{PathMetaHeader}
 use Rattle.errors.specs.declared.path_error.PathError.{PathError}
 use Rattle.errors.specs.declared.path_error.PathError.the-variants.{Decode, InadequateBufferSize}
-use Rattle.path.specs.Dataplane.{readDataplane, Written}
+use Rattle.path.specs.Dataplane.{readDataplane, KeepsExpiry}
 
 -- a path's bytes into a destination of exactly their length; an empty path writes nothing and disregards its destination
-unfoldable pub into : ℕ → PathMetaHeader → List ℕ → List ℕ → Result PathError Written
-into type header run dst = do
+unfoldable pub into : ℕ → List ℕ → List ℕ → Result PathError (List ℕ)
+into type run dst = do
   require (eqb type 0 || eqb (length dst) (length run)) InadequateBufferSize
-  ok (record { header = header; bytes = cond (eqb type 0) dst run })
+  ok (cond (eqb type 0) dst run)
 
-unfoldable pub copy : ℕ → List ℕ → List ℕ → Result PathError Written
+unfoldable pub copy : ℕ → List ℕ → List ℕ → Result PathError (List ℕ)
 copy type bytes dst = do
   read ← refusing Decode (readDataplane type bytes)
-  into type (read .header) (take (read .length) bytes) dst
+  into type (take (read .length) bytes) dst
+
+-- a theorem: a copy is the path's own bytes
+abbrev pub CopyKeepsExpiry : Type 0
+CopyKeepsExpiry = (bytes dst : List ℕ) → KeepsExpiry bytes (copy 1 bytes dst)

@@ -17,7 +17,7 @@ use Rattle.path_meta_header.specs.declared.PathMetaHeader.{PathMetaHeader}
 use Rattle.errors.specs.declared.path_error.PathError.{PathError}
 use Rattle.errors.specs.declared.path_error.PathError.the-variants.{Decode}
 use Rattle.path.specs.Standard.{readPath}
-use Rattle.path.specs.Dataplane.{Extent, Written, readDataplane}
+use Rattle.path.specs.Dataplane.{Extent, readDataplane, KeepsExpiry}
 use Rattle.path_reverse.specs.Copy.{into}
 
 -- f of each of the first n records of k bytes, in opposite order
@@ -59,9 +59,13 @@ pub record Reversible (m : PathMetaHeader) (source destination : ℕ) : Type 0 w
 
 -- what is written of a path of any type: a standard path reversed, an opaque one as it is
 unfoldable pub reversedBytes : ℕ → Extent → List ℕ → List ℕ
-reversedBytes type read bytes = cond (eqb type 1) (reversedPath (read .header) bytes) (take (read .length) bytes)
+reversedBytes type read bytes = cond (eqb type 1) (reversedPath (read .path .«meta_header») bytes) (take (read .length) bytes)
 
-unfoldable pub reverse : ℕ → List ℕ → List ℕ → Result PathError Written
+unfoldable pub reverse : ℕ → List ℕ → List ℕ → Result PathError (List ℕ)
 reverse type bytes dst = do
   read ← refusing Decode (readDataplane type bytes)
-  into type (reversedMeta (read .header)) (reversedBytes type read bytes) dst
+  into type (reversedBytes type read bytes) dst
+
+-- a theorem: the least over the segments in opposite order is the least
+abbrev pub ReversalKeepsExpiry : Type 0
+ReversalKeepsExpiry = (bytes dst : List ℕ) → KeepsExpiry bytes (reverse 1 bytes dst)

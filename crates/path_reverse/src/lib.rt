@@ -27,7 +27,7 @@ ghost use Rattle.path_reverse.specs.Reverse as spec;
 
 // Copies the path to a destination of exactly its length. An empty path disregards its destination.
 pub fn copy_to_slice(path: DataplanePath, bytes: &[u8], dst: &mut [u8]) -> PathAnswer
-    ensures { λ r. ⌜ r ≡ writtenAnswer (copying.copy (path .«path_type») (now (bytes .entry)) (now (dst .entry))) ⌝ }
+    ensures { λ r. ⌜ r ≡ writtenAnswer (path .«path_type») (copying.copy (path .«path_type») (now (bytes .entry)) (now (dst .entry))) ⌝ }
     ensures { λ _. ⌜ now (dst .exit) ≡ contents (copying.copy (path .«path_type») (now (bytes .entry)) (now (dst .entry))) (now (dst .entry)) ⌝ }
 {
     let read = path.decode(bytes);
@@ -133,7 +133,7 @@ fn reverse_fields(meta_header: PathMetaHeader, bytes: &[u8], dst: &mut [u8])
 // Writes the reversed path to a destination of exactly the path's length: a standard path by the draft's Path Reversal,
 // an opaque one as it is. An empty path writes nothing and disregards its destination.
 pub fn reverse_to_slice(path: DataplanePath, bytes: &[u8], dst: &mut [u8]) -> PathAnswer
-    ensures { λ r. ⌜ r ≡ writtenAnswer (spec.reverse (path .«path_type») (now (bytes .entry)) (now (dst .entry))) ⌝ }
+    ensures { λ r. ⌜ r ≡ writtenAnswer (path .«path_type») (spec.reverse (path .«path_type») (now (bytes .entry)) (now (dst .entry))) ⌝ }
     ensures { λ _. ⌜ now (dst .exit) ≡ contents (spec.reverse (path .«path_type») (now (bytes .entry)) (now (dst .entry))) (now (dst .entry)) ⌝ }
 {
     if path.path_type != DataplanePath::SCION {
@@ -151,5 +151,6 @@ pub fn reverse_to_slice(path: DataplanePath, bytes: &[u8], dst: &mut [u8]) -> Pa
     reverse_fields(meta_header, bytes, dst);
     PathAnswer::accepted(StandardPath {
         meta_header: meta_header.to_reversed(),
+        expiry: read.path.expiry,
     })
 }

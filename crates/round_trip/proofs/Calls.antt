@@ -10,10 +10,9 @@ use borrow.Author.Tests.{eq-eqb, ne-eqb}
 use Rattle.wire_encoding.specs.Result.{ok, refused}
 use Rattle.path_meta_header.specs.MetaHeader.{hopFieldsCount, pathLength}
 use Rattle.path_meta_header.specs.declared.PathMetaHeader.{PathMetaHeader}
-use Rattle.path_meta_header.specs.Reversal.{reversedMeta}
 use Rattle.errors.specs.declared.path_error.PathError.the-variants.{AtLastHopField, InadequateBufferSize}
 use Rattle.path.specs.Dataplane.{standard, metaHeaderOf}
-use Rattle.path.proofs.Reading.{standard-readable, standard-read, path-read}
+use Rattle.path.proofs.Reading.{standard-readable, standard-read}
 use Rattle.path_reverse.specs.Reverse.{reversedPath, reverse}
 use Rattle.path_reverse.proofs.Reverse.{reverse-exact, reverse-other}
 use Rattle.path_moves.specs.Moves.{isLast, iterate, move, moved, walkMoves, walked}
@@ -66,8 +65,8 @@ module _ (x : List ℕ) (m : PathMetaHeader) (path : Path x m) where
   -- A REVERSAL
 
   module _ (dst : List ℕ) where
-    pub reverse-accepted : length dst ≡ pathLength m → reverse 1 x dst ≡ ok (record { header = reversedMeta m; bytes = reversedPath m x })
-    reverse-accepted = reverse-exact x dst (path-read x m (path .known .path))
+    pub reverse-accepted : length dst ≡ pathLength m → reverse 1 x dst ≡ ok (reversedPath m x)
+    reverse-accepted = reverse-exact x dst (path .known .path)
 
     pub reverse-refused : (length dst ≡ pathLength m → ⊥) → reverse 1 x dst ≡ refused InadequateBufferSize
-    reverse-refused = reverse-other x dst (path-read x m (path .known .path))
+    reverse-refused = reverse-other x dst (path .known .path)

@@ -31,7 +31,7 @@ pub computed : examples.Computed
 unfolding bigEndian bytesOf room withBit fields.infoFieldAt fields.hopFieldAt fields.interfaceOf fields.ingressInterface fields.egressInterface
     meta.nthField meta.metaOf meta.infoFieldsCount meta.hopFieldsCount meta.segmentOf meta.firstHopField meta.pathLength meta.lengthsValid
     meta.hopValid meta.infoValid meta.checked meta.readMeta encoding.wordOf reversal.atStart reversal.reversedLengths reversal.reversedMeta
-    standard.readPath dataplane.readDataplane dataplane.standard dataplane.metaHeaderOf copy.into flatMap records
+    standard.readPath standard.readRecord dataplane.readDataplane dataplane.standard dataplane.metaHeaderOf copy.into flatMap records
     reverse.reversedRecords reverse.flipped reverse.same reverse.reversedUnder reverse.reversedPath reverse.reversedBytes reverse.reverse
     rules.ownerOf rules.spared rules.somePeering rules.peeringPath rules.peeringAllowed rules.movable
     moves.takesIn moves.moveBytes moves.isLast moves.move moves.moved moves.walkMoves moves.walk moves.walked
@@ -114,7 +114,7 @@ all-given : (asked examples.single ≡ given)
 unfolding bigEndian room fields.infoFieldAt
     meta.nthField meta.metaOf meta.infoFieldsCount meta.hopFieldsCount meta.segmentOf meta.pathLength meta.lengthsValid
     meta.hopValid meta.infoValid meta.checked meta.readMeta
-    standard.readPath dataplane.readDataplane dataplane.standard dataplane.metaHeaderOf
+    standard.readPath standard.readRecord dataplane.readDataplane dataplane.standard dataplane.metaHeaderOf
     rules.somePeering rules.peeringPath rules.peeringAllowed
     examples.info examples.hop examples.hops
     examples.single examples.double examples.triple examples.peered examples.shortest examples.longest asked given allBytes

@@ -15,7 +15,7 @@ use Rattle.path_meta_header.specs.MetaHeader.{hopFieldsCount, pathLength}
 use Rattle.path_meta_header.specs.declared.PathMetaHeader.{PathMetaHeader}
 use Rattle.path_moves.specs.Moves as moves
 use Rattle.wire_encoding.specs.Result.{mapped, orElse}
-use Rattle.path.specs.Dataplane.{Written, metaHeaderOf}
+use Rattle.path.specs.Dataplane.{metaHeaderOf}
 use Rattle.path_reverse.specs.Reverse.{reverse}
 use Rattle.round_trip.specs.RoundTrip.{reversedInto, End, first, other, Packet, State, begin, byEnd, Event, sending, single-move, walk, loss}
 use Rattle.round_trip.specs.RoundTrip.{doubling, arrival, onTheWay, onPacket, sent, packetMoved, packetWalked, without, hopCount, pointer}
@@ -211,7 +211,7 @@ module _ (b : List ℕ) (g : Begun b) where
       long = track-length b g (q .to) (q .count) (t .below)
 
       go : (a : Bool) → atLast (q .bytes) ≡ a → (r : Bool) → eqb (length dst) (length b) ≡ r
-          → Holds (cond a (orElse (mapped (λ (written : Written). holding s i q (written .bytes)) (reverse 1 (q .bytes) dst)) s) s)
+          → Holds (cond a (orElse (mapped (holding s i q) (reverse 1 (q .bytes) dst)) s) s)
       go false e r f = v
       go true e true f =
           let size : length dst ≡ length b = eqb-true (length dst) (length b) f in

@@ -13,7 +13,7 @@ use Rattle.path_fields.specs.Fields.{ingressInterface, egressInterface}
 use Rattle.path_fields.specs.declared.Interface.{Interface}
 use Rattle.path_meta_header.specs.MetaHeader.{hopFieldsCount, pathLength, hopStart}
 use Rattle.path.specs.Standard.{hopAt}
-use Rattle.path.specs.Dataplane.{Written, standard, metaHeaderOf, contents}
+use Rattle.path.specs.Dataplane.{standard, metaHeaderOf, contents}
 use Rattle.path_reverse.specs.Reverse as reverse
 use Rattle.path_moves.specs.Moves as moves
 use Rattle.path_moves.specs.Rules as rules
@@ -113,7 +113,7 @@ holding s i q path =
 unfoldable pub arrived : State → ℕ → List ℕ → Packet → State
 arrived s i destination q =
     cond (atLast (q .bytes))
-    (orElse (mapped (λ (written : Written). holding s i q (written .bytes)) (reverse.reverse 1 (q .bytes) destination)) s)
+    (orElse (mapped (holding s i q) (reverse.reverse 1 (q .bytes) destination)) s)
     s
 
 unfoldable pub step : State → Event → State

@@ -8,12 +8,12 @@ use lib.IntN.{pos}
 use lib.ListN.{replicate}
 use Rattle.path_meta_header.specs.MetaHeader.{metaOf, nthField}
 use Rattle.path_fields.specs.Fields.{newInfoField, newHopField, zeroInfoField, zeroHopField}
-use Rattle.path_meta_header.specs.declared.PathMetaHeader.{PathMetaHeader}
 use Rattle.errors.specs.declared.path_error.Answer.the-variants.{Refused}
 use Rattle.errors.specs.declared.path_error.PathError.{PathError}
-use Rattle.wire_encoding.specs.Result.{Result, refused}
-use Rattle.path.specs.Dataplane.{pathAnswer, located, segment}
-use Rattle.path_expiry.specs.Expiry.{expiryFound, timeLeftFound}
+use Rattle.wire_encoding.specs.Result.{refused}
+use Rattle.path.specs.Dataplane.{writtenAnswer, located, segment}
+use Rattle.path.specs.TimeLeft.{timeLeftFound}
+use Rattle.path_expiry.specs.Expiry.{expiryFound}
 use Rattle.path_interfaces.specs.Interfaces.{interfaceCount, interfaceFound}
 use Rattle.path_moves.specs.Moves.{walkAnswer}
 use Rattle.path.specs.declared.standard.StandardPath.{StandardPath}
@@ -24,16 +24,20 @@ use Rattle.scion_paths.specs.Paths.{interfaceOut, walkOut}
 
 -- the record of no path, and no part
 abbrev pub zeros : StandardPath
-zeros = record { «meta_header» = record { «current_info_field» = 0; «current_hop_field» = 0; reserved = 0; «segment_lengths» = 0 ∷ 0 ∷ 0 ∷ [] } }
+zeros =
+    record {
+      «meta_header» = record { «current_info_field» = 0; «current_hop_field» = 0; reserved = 0; «segment_lengths» = 0 ∷ 0 ∷ 0 ∷ [] };
+      expiry = 0;
+    }
 
 abbrev none : Part
 none = record { start = 0; len = 0 }
 
-module _ (path : Result PathError PathMetaHeader) (error : PathError) where
-  pub path-answer-refused : pathAnswerOut (pathAnswer (refused error))
+module _ (path : StandardPath) (error : PathError) where
+  pub path-answer-refused : (type : ℕ) → pathAnswerOut (writtenAnswer type (refused error))
       ≡ record { answer = answerOut (Refused error); path = zeros }
-  unfolding pathAnswerOut pathAnswer metaOf nthField
-  path-answer-refused = refl
+  unfolding pathAnswerOut writtenAnswer metaOf nthField
+  path-answer-refused type = refl
 
   pub info-field-refused : (bytes : List ℕ) → infoFieldOut bytes (located path (refused error))
       ≡ record { answer = answerOut (Refused error); path = zeros; start = 0; flags = 0; reserved = 0; accumulator = 0; timestamp = 0 }
@@ -80,7 +84,7 @@ module _ (path : Result PathError PathMetaHeader) (error : PathError) where
   unfolding interfaceOut interfaceFound metaOf nthField
   interface-refused = refl
 
-  pub walk-refused : walkOut (walkAnswer 1 (refused error))
+  pub walk-refused : (type : ℕ) → walkOut (walkAnswer type (refused error))
       ≡ record { answer = answerOut (Refused error); path = zeros; moves = 0; arrived = false }
   unfolding walkOut walkAnswer metaOf nthField
-  walk-refused = refl
+  walk-refused type = refl

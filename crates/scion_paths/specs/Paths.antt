@@ -11,7 +11,7 @@ use Rattle.path.specs.declared.dataplane.DataplaneRead.{DataplaneRead}
 use Rattle.path.specs.declared.dataplane.PathAnswer.{PathAnswer}
 use Rattle.path.specs.declared.dataplane.Located.{Located}
 use Rattle.path_expiry.specs.declared.Expiry.{Expiry}
-use Rattle.path_expiry.specs.declared.TimeLeft.{TimeLeft}
+use Rattle.path.specs.declared.standard.time_left.TimeLeft.{TimeLeft}
 use Rattle.path_interfaces.specs.declared.InterfaceCount.{InterfaceCount}
 use Rattle.path_interfaces.specs.declared.InterfaceAt.{InterfaceAt}
 use Rattle.path_moves.specs.declared.WalkAnswer.{WalkAnswer}

@@ -1,5 +1,6 @@
 // The calls on paths: each takes the path's type byte beside its bytes, and hands the library's answer over.
 use path::dataplane::DataplanePath;
+use path::standard::StandardPath;
 use path_moves::single_move;
 use path_moves::walk;
 use path_reverse::copy_to_slice;
@@ -25,8 +26,8 @@ use scion_paths::segment_out;
 use scion_paths::time_left_out;
 use scion_paths::walk_out;
 ghost use mathlib.Core.Path.{_≡_};
-ghost use Rattle.wire_encoding.specs.Result.{andThen};
 ghost use Rattle.path.specs.Dataplane as dataplane;
+ghost use Rattle.path.specs.TimeLeft as left;
 ghost use Rattle.path_reverse.specs.Copy as copy;
 ghost use Rattle.path_expiry.specs.Expiry as expiry;
 ghost use Rattle.path_interfaces.specs.Interfaces as interfaces;
@@ -47,7 +48,7 @@ pub extern "C" fn scion_read_path(path_type: u8, bytes: &[u8]) -> ScionPathRead
 pub extern "C" fn scion_info_field(path_type: u8, bytes: &[u8], index: usize) -> ScionInfoField
     ensures { λ r. ⌜ r
         ≡ spec.infoFieldOut (now (bytes .entry))
-        (dataplane.located (dataplane.standard «path_type» (now (bytes .entry)))
+        (dataplane.located (dataplane.pathOf «path_type» (now (bytes .entry)))
         (dataplane.infoFieldIn «path_type» (now (bytes .entry)) index)) ⌝ }
 {
     info_field_out(
@@ -61,7 +62,7 @@ pub extern "C" fn scion_info_field(path_type: u8, bytes: &[u8], index: usize) ->
 pub extern "C" fn scion_hop_field(path_type: u8, bytes: &[u8], index: usize) -> ScionHopField
     ensures { λ r. ⌜ r
         ≡ spec.hopFieldOut (now (bytes .entry))
-        (dataplane.located (dataplane.standard «path_type» (now (bytes .entry)))
+        (dataplane.located (dataplane.pathOf «path_type» (now (bytes .entry)))
         (dataplane.hopFieldIn «path_type» (now (bytes .entry)) index)) ⌝ }
 {
     hop_field_out(
@@ -75,7 +76,7 @@ pub extern "C" fn scion_hop_field(path_type: u8, bytes: &[u8], index: usize) -> 
 pub extern "C" fn scion_segment(path_type: u8, bytes: &[u8], index: usize) -> ScionSegment
     ensures { λ r. ⌜ r
         ≡ spec.segmentOut
-        (dataplane.segment (dataplane.standard «path_type» (now (bytes .entry))) (dataplane.segmentIn «path_type» (now (bytes .entry)) index)) ⌝ }
+        (dataplane.segment (dataplane.pathOf «path_type» (now (bytes .entry))) (dataplane.segmentIn «path_type» (now (bytes .entry)) index)) ⌝ }
 {
     segment_out(DataplanePath::new(path_type).segment(bytes, index))
 }
@@ -85,7 +86,7 @@ pub extern "C" fn scion_segment(path_type: u8, bytes: &[u8], index: usize) -> Sc
 pub extern "C" fn scion_segment_expiry(path_type: u8, bytes: &[u8], index: usize) -> ScionExpiry
     ensures { λ r. ⌜ r
         ≡ spec.expiryOut
-        (expiry.expiryFound (dataplane.standard «path_type» (now (bytes .entry)))
+        (expiry.expiryFound (dataplane.pathOf «path_type» (now (bytes .entry)))
         (expiry.segmentExpiryIn «path_type» (now (bytes .entry)) index)) ⌝ }
 {
     expiry_out(path_expiry::segment_expiry_time(DataplanePath::new(path_type), bytes, index))
@@ -96,7 +97,7 @@ pub extern "C" fn scion_segment_expiry(path_type: u8, bytes: &[u8], index: usize
 pub extern "C" fn scion_expiry(path_type: u8, bytes: &[u8]) -> ScionExpiry
     ensures { λ r. ⌜ r
         ≡ spec.expiryOut
-        (expiry.expiryFound (dataplane.standard «path_type» (now (bytes .entry))) (expiry.expiryIn «path_type» (now (bytes .entry)))) ⌝ }
+        (expiry.expiryFound (dataplane.pathOf «path_type» (now (bytes .entry))) (expiry.expiryIn «path_type» (now (bytes .entry)))) ⌝ }
 {
     expiry_out(path_expiry::expiry_time(DataplanePath::new(path_type), bytes))
 }
@@ -106,9 +107,25 @@ pub extern "C" fn scion_expiry(path_type: u8, bytes: &[u8]) -> ScionExpiry
 pub extern "C" fn scion_time_left(path_type: u8, bytes: &[u8], at: u64) -> ScionTimeLeft
     ensures { λ r. ⌜ r
         ≡ spec.timeLeftOut
-        (expiry.timeLeftFound (dataplane.standard «path_type» (now (bytes .entry))) (expiry.timeLeftIn «path_type» (now (bytes .entry)) at)) ⌝ }
+        (left.timeLeftFound (dataplane.pathOf «path_type» (now (bytes .entry))) (expiry.timeLeftIn «path_type» (now (bytes .entry)) at)) ⌝ }
 {
     time_left_out(path_expiry::time_left(DataplanePath::new(path_type), bytes, at))
+}
+
+// When the path of a record expires, as the record has it; no bytes are looked at.
+#[no_mangle]
+pub extern "C" fn scion_record_expiry(path: StandardPath) -> u64
+    ensures { λ r. ⌜ r ≡ path .expiry ⌝ }
+{
+    path.expiry_time()
+}
+
+// The record's expiry less `at`, both within their bounds.
+#[no_mangle]
+pub extern "C" fn scion_record_time_left(path: StandardPath, at: u64) -> ScionTimeLeft
+    ensures { λ r. ⌜ r ≡ spec.timeLeftOut (left.timeLeftFound path (left.timeLeftOf path at)) ⌝ }
+{
+    time_left_out(path.time_left(at))
 }
 
 // The number of interfaces on the path.
@@ -116,7 +133,7 @@ pub extern "C" fn scion_time_left(path_type: u8, bytes: &[u8], at: u64) -> Scion
 pub extern "C" fn scion_interfaces_count(path_type: u8, bytes: &[u8]) -> ScionInterfaceCount
     ensures { λ r. ⌜ r
         ≡ spec.interfaceCountOut
-        (interfaces.interfaceCount (dataplane.standard «path_type» (now (bytes .entry)))
+        (interfaces.interfaceCount (dataplane.pathOf «path_type» (now (bytes .entry)))
         (interfaces.interfacesIn «path_type» (now (bytes .entry)))) ⌝ }
 {
     interface_count_out(path_interfaces::interfaces_count(DataplanePath::new(path_type), bytes))
@@ -127,7 +144,7 @@ pub extern "C" fn scion_interfaces_count(path_type: u8, bytes: &[u8]) -> ScionIn
 pub extern "C" fn scion_interface(path_type: u8, bytes: &[u8], index: usize) -> ScionInterface
     ensures { λ r. ⌜ r
         ≡ spec.interfaceOut
-        (interfaces.interfaceFound (dataplane.standard «path_type» (now (bytes .entry)))
+        (interfaces.interfaceFound (dataplane.pathOf «path_type» (now (bytes .entry)))
         (interfaces.interfaceIn «path_type» (now (bytes .entry)) index)) ⌝ }
 {
     interface_out(path_interfaces::interface(DataplanePath::new(path_type), bytes, index))
@@ -141,7 +158,7 @@ pub extern "C" fn scion_set_ingress_router_alert(
     index: usize,
     on: bool,
 ) -> ScionPathAnswer
-    ensures { λ r. ⌜ r ≡ spec.pathAnswerOut (dataplane.writtenAnswer (dataplane.alerted 1 on «path_type» (now (bytes .entry)) index)) ⌝ }
+    ensures { λ r. ⌜ r ≡ spec.pathAnswerOut (dataplane.writtenAnswer «path_type» (dataplane.alerted 1 on «path_type» (now (bytes .entry)) index)) ⌝ }
     ensures { λ _. ⌜ now (bytes .exit) ≡ dataplane.contents (dataplane.alerted 1 on «path_type» (now (bytes .entry)) index) (now (bytes .entry)) ⌝ }
 {
     path_answer_out(DataplanePath::new(path_type).set_cons_ingress_router_alert(bytes, index, on))
@@ -155,7 +172,7 @@ pub extern "C" fn scion_set_egress_router_alert(
     index: usize,
     on: bool,
 ) -> ScionPathAnswer
-    ensures { λ r. ⌜ r ≡ spec.pathAnswerOut (dataplane.writtenAnswer (dataplane.alerted 0 on «path_type» (now (bytes .entry)) index)) ⌝ }
+    ensures { λ r. ⌜ r ≡ spec.pathAnswerOut (dataplane.writtenAnswer «path_type» (dataplane.alerted 0 on «path_type» (now (bytes .entry)) index)) ⌝ }
     ensures { λ _. ⌜ now (bytes .exit) ≡ dataplane.contents (dataplane.alerted 0 on «path_type» (now (bytes .entry)) index) (now (bytes .entry)) ⌝ }
 {
     path_answer_out(DataplanePath::new(path_type).set_cons_egress_router_alert(bytes, index, on))
@@ -164,8 +181,7 @@ pub extern "C" fn scion_set_egress_router_alert(
 // A single move.
 #[no_mangle]
 pub extern "C" fn scion_move(path_type: u8, bytes: &mut [u8]) -> ScionPathAnswer
-    ensures { λ r. ⌜ r
-        ≡ spec.pathAnswerOut (dataplane.pathAnswer (andThen (moves.move «path_type» (now (bytes .entry))) (dataplane.standard «path_type»))) ⌝ }
+    ensures { λ r. ⌜ r ≡ spec.pathAnswerOut (dataplane.writtenAnswer «path_type» (moves.move «path_type» (now (bytes .entry)))) ⌝ }
     ensures { λ _. ⌜ now (bytes .exit) ≡ moves.moved «path_type» (now (bytes .entry)) ⌝ }
 {
     path_answer_out(single_move(DataplanePath::new(path_type), bytes))
@@ -183,7 +199,7 @@ pub extern "C" fn scion_walk(path_type: u8, bytes: &mut [u8], limit: usize) -> S
 // Copies the path to a destination of exactly its length. An empty path disregards its destination.
 #[no_mangle]
 pub extern "C" fn scion_copy_path(path_type: u8, bytes: &[u8], dst: &mut [u8]) -> ScionPathAnswer
-    ensures { λ r. ⌜ r ≡ spec.pathAnswerOut (dataplane.writtenAnswer (copy.copy «path_type» (now (bytes .entry)) (now (dst .entry)))) ⌝ }
+    ensures { λ r. ⌜ r ≡ spec.pathAnswerOut (dataplane.writtenAnswer «path_type» (copy.copy «path_type» (now (bytes .entry)) (now (dst .entry)))) ⌝ }
     ensures { λ _. ⌜ now (dst .exit) ≡ dataplane.contents (copy.copy «path_type» (now (bytes .entry)) (now (dst .entry))) (now (dst .entry)) ⌝ }
 {
     path_answer_out(copy_to_slice(DataplanePath::new(path_type), bytes, dst))
@@ -192,7 +208,7 @@ pub extern "C" fn scion_copy_path(path_type: u8, bytes: &[u8], dst: &mut [u8]) -
 // Writes the reply's path to a destination of exactly the path's length. An empty path disregards its destination.
 #[no_mangle]
 pub extern "C" fn scion_reverse_path(path_type: u8, bytes: &[u8], dst: &mut [u8]) -> ScionPathAnswer
-    ensures { λ r. ⌜ r ≡ spec.pathAnswerOut (dataplane.writtenAnswer (reversal.reverse «path_type» (now (bytes .entry)) (now (dst .entry)))) ⌝ }
+    ensures { λ r. ⌜ r ≡ spec.pathAnswerOut (dataplane.writtenAnswer «path_type» (reversal.reverse «path_type» (now (bytes .entry)) (now (dst .entry)))) ⌝ }
     ensures { λ _. ⌜ now (dst .exit)
         ≡ dataplane.contents (reversal.reverse «path_type» (now (bytes .entry)) (now (dst .entry))) (now (dst .entry)) ⌝ }
 {

@@ -4,6 +4,7 @@ use mathlib.Core.Path.{refl}
 use Rattle.wire_encoding.specs.BigEndian.{bigEndian, bytesOf, numberAt, room}
 use Rattle.path_meta_header.specs.MetaHeader as meta
 use Rattle.path_fields.specs.Fields as fields
+use Rattle.path_least_expiry.specs.Expiry as least
 use Rattle.path.specs.Standard as standard
 use Rattle.path.specs.Dataplane as dataplane
 use Rattle.path_expiry.specs.Expiry as expiry
@@ -19,8 +20,8 @@ unfolding answers wanted reading splitting expiring interfaceOfTwoByTwo moving b
     meta.nthField meta.metaOf meta.infoFieldsCount meta.hopFieldsCount meta.segmentOf meta.firstHopField meta.pathLength
     meta.interfacesCount meta.segmentOfLink meta.hopFieldOf meta.lengthsValid meta.hopValid meta.infoValid meta.checked meta.readMeta
     fields.infoFieldAt fields.hopFieldAt fields.expiryOffset fields.expiryTime
-    standard.readPath dataplane.readDataplane dataplane.standard
-    expiry.least expiry.hopExpiry expiry.segmentExpiry expiry.pathExpiry expiry.expiryIn interfaces.interfaceAt interfaces.interfaceIn
+    standard.readPath standard.readRecord dataplane.readDataplane dataplane.standard
+    least.least least.hopExpiry least.segmentExpiry least.pathExpiry expiry.expiryIn interfaces.interfaceAt interfaces.interfaceIn
     rules.ownerOf rules.spared rules.somePeering rules.peeringPath rules.peeringAllowed rules.movable
     moves.takesIn moves.moveBytes moves.isLast moves.move moves.moved
     common.readCommon raw.readPacket

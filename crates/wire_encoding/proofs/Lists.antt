@@ -19,6 +19,10 @@ use Rattle.wire_encoding.specs.BigEndian.{part}
 abbrev pub Bytes : List ℕ → Type 0
 Bytes bytes = (k : ℕ) → Fits w8 (getD bytes k 0)
 
+-- numbers below 256 are
+pub bytes-of : (bytes : List ℕ) → ((i : ℕ) → getD bytes i 0 < 256) → Bytes bytes
+bytes-of bytes small i = omega (arith, small i)
+
 pub length-part : (at n : ℕ) (bytes : List ℕ) → at + n ≤ length bytes → length (part at n bytes) ≡ n
 length-part at n bytes h = simp (length-take, length-drop) (omega arith)
 

@@ -4,7 +4,7 @@ use Prim.Native.Nat.{ℕ}
 use mathlib.Core.Path.{_≡_, refl, sym}
 use mathlib.Core.Bool.{Bool, true, false}
 use native.Mathlib.Omega.{arith}
-use Rattle.wire_encoding.specs.Result.{Result, ok, refused, require, andThen, orElse, refusing}
+use Rattle.wire_encoding.specs.Result.{Result, ok, refused, require, andThen, mapped, orElse, refusing}
 
 module _ {E A : Type 0} where
   -- no result is both
@@ -45,6 +45,11 @@ module _ {E F A : Type 0} (among : E → F) where
   pub refusing-ok : (r : Result E A) {a : A} → refusing among r ≡ ok a → r ≡ ok a
   refusing-ok (ok a) h = rw (same-value h)
   refusing-ok (refused error) h = absurd (not-both h)
+
+-- a value put to a use was there
+pub mapped-ok : {E A B : Type 0} (f : A → B) (r : Result E A) {b : B} → mapped f r ≡ ok b → Stepped r (λ a. ok (f a)) b
+mapped-ok f (ok a) h = record { value = a; first = refl; then = h }
+mapped-ok f (refused error) h = absurd (not-both h)
 
 module _ {E A B C D : Type 0} (step : A → Result E B) (f : A → B → C) (g : A → B → D) where
   -- two chains of the same two steps are refused alike, whatever they make of the values

@@ -9,9 +9,9 @@ use lib.ListN.{length}
 use Rattle.wire_encoding.specs.BigEndian.{bigEndian, bytesOf}
 use Rattle.wire_encoding.proofs.Result.{same-value, stepped}
 use Rattle.path_meta_header.specs.MetaHeader.{pathLength}
-use Rattle.path_meta_header.specs.declared.PathMetaHeader.{PathMetaHeader}
-use Rattle.path.specs.Standard.{readPath}
+use Rattle.path.specs.Standard.{readRecord}
 use Rattle.path.specs.Dataplane.{Extent, readDataplane}
+use Rattle.path.specs.declared.standard.StandardPath.{StandardPath}
 use Rattle.packet_common_header.specs.CommonHeader as common
 use Rattle.packet_common_header.specs.CommonHeader.{hostLength}
 use Rattle.packet_address_header.specs.AddressHeader as address
@@ -25,12 +25,12 @@ unfolding newHeaders headersLength addressLength lengthOfKinds hostLength
 new-headers-full a type n next payload flow = (λ four. omega arith, λ full. omega arith)
 
 -- a standard path is 4 + 8 · I + 12 · N bytes
-standard-four : (path : List ℕ) {m : PathMetaHeader} → ReadWhole 1 path m → length path % 4 ≡ 0
+standard-four : (path : List ℕ) {stored : StandardPath} → ReadWhole 1 path stored → length path % 4 ≡ 0
 unfolding readDataplane pathLength
-standard-four path h = let header = stepped (readPath path) _ h in omega (arith, ap (λ (r : Extent). r .length) (same-value (header .then)))
+standard-four path h = let read = stepped (readRecord path) _ h in omega (arith, ap (λ (r : Extent). r .length) (same-value (read .then)))
 
 -- an empty path adds nothing
-added-four : (type : ℕ) (path : List ℕ) {m : PathMetaHeader} → type < 2 → ReadWhole type (addedBytes type path) m
+added-four : (type : ℕ) (path : List ℕ) {stored : StandardPath} → type < 2 → ReadWhole type (addedBytes type path) stored
     → addedLength type (length path) % 4 ≡ 0
 unfolding addedBytes addedLength
 added-four zero path few read = refl
@@ -39,7 +39,7 @@ added-four (suc (suc type)) path few read = absurd (omega arith)
 
 pub new-headers-fill : NewHeadersFill
 unfolding newHeaders
-new-headers-fill a type path m next payload flow few read = record {
+new-headers-fill a type path stored next payload flow few read = record {
   version = refl;
   full = new-headers-full a type (length path) next payload flow .0 (added-four type path few read);
   path-read = read;

@@ -11,8 +11,8 @@ use borrow.Author.Tests.{le-leb, eq-eqb}
 use Rattle.wire_encoding.specs.Result.{Result, ok}
 use Rattle.wire_encoding.proofs.Result.{same-value}
 use Rattle.errors.specs.declared.packet_error.DecodeError.{DecodeError}
-use Rattle.path_meta_header.specs.declared.PathMetaHeader.{PathMetaHeader}
 use Rattle.path.specs.Dataplane.{readDataplane}
+use Rattle.path.specs.declared.standard.StandardPath.{StandardPath}
 use Rattle.packet_common_header.specs.CommonHeader.{readCommon, headerLength, hostLength, commonBytes}
 use Rattle.packet_address_header.specs.AddressHeader.{addressLength, lengthOfKinds, readAddress, addressBytes}
 use Rattle.packet_common_header.specs.declared.CommonHeader.{CommonHeader}
@@ -28,21 +28,22 @@ use Rattle.written_read.proofs.Commons.{common-read}
 use Rattle.written_read.proofs.Addresses.{address-read-long, address-back}
 
 -- a packet whose stages all accept is read
-packet-accepted : (bytes headers rest path payload : List ℕ) (c : CommonHeader) (a : AddressHeader) (m : PathMetaHeader) → readCommon bytes ≡ ok c
+packet-accepted : (bytes headers rest path payload : List ℕ) (c : CommonHeader) (a : AddressHeader) (stored : StandardPath)
+    → readCommon bytes ≡ ok c
     → take (headerLength c) bytes ≡ headers
     → drop (headerLength c) bytes ≡ rest
     → readAddress (drop 12 headers) (c .«destination_kind») (c .«source_kind») ≡ ok a
     → drop (12 + addressLength a) headers ≡ path
-    → readDataplane (c .«path_type») path ≡ ok (record { header = m; length = length path })
+    → readDataplane (c .«path_type») path ≡ ok (record { path = stored; length = length path })
     → c .«payload_length» ≤ length rest
     → take (c .«payload_length») rest ≡ payload
-    → readPacket bytes ≡ ok (record { common = c; address = a; path = m; path-bytes = path; payload = payload })
+    → readPacket bytes ≡ ok (record { common = c; address = a; path = stored; path-bytes = path; payload = payload })
 unfolding readPacket
-packet-accepted bytes headers rest path payload c a m common taken left address sees accepted room own =
+packet-accepted bytes headers rest path payload c a stored common taken left address sees accepted room own =
     rw (common, taken, left, address, sees, accepted, eq-eqb (length path) (length path) refl, le-leb _ _ room, own)
 
-module _ (h : ScionHeaders) (path : List ℕ) (m : PathMetaHeader) (size : ℕ) (payload after : List ℕ) (t : Typed h) (f : Fills h path m)
-    (k : Known h path size) (paid : length payload ≡ h .«payload_length») where
+module _ (h : ScionHeaders) (path : List ℕ) (stored : StandardPath) (size : ℕ) (payload after : List ℕ) (t : Typed h)
+    (f : Fills h path stored) (k : Known h path size) (paid : length payload ≡ h .«payload_length») where
   -- what is written: common header, address header, path
   abbrev x : List ℕ
   x = commonBytes (commonOf h)
@@ -104,10 +105,10 @@ module _ (h : ScionHeaders) (path : List ℕ) (m : PathMetaHeader) (size : ℕ) 
       let two : length y ≡ n = length-addressBytes (h .address) sixteen ∙ sym (address-read-long (h .address)) in
       ap (drop (12 + n)) (sym (append-assoc x y z)) ∙ drop-at (x ++ y) z (12 + n) (simp length-append (omega arith))
 
-  all-read : readPacket packet ≡ ok (packetOf h path m payload)
+  all-read : readPacket packet ≡ ok (packetOf h path stored payload)
   unfolding packetOf commonOf
   all-read =
-      packet-accepted packet (headerBytes h path) (payload ++ after) z payload (commonOf h) (addressRead (h .address)) m reads-common
+      packet-accepted packet (headerBytes h path) (payload ++ after) z payload (commonOf h) (addressRead (h .address)) stored reads-common
       (take-at (headerBytes h path) (payload ++ after) (headerLength (commonOf h)) ends)
       (drop-at (headerBytes h path) (payload ++ after) (headerLength (commonOf h)) ends)
       reads-address sees-path (f .path-read)
@@ -115,6 +116,6 @@ module _ (h : ScionHeaders) (path : List ℕ) (m : PathMetaHeader) (size : ℕ) 
       (take-at payload after (h .«payload_length») paid)
 
 pub reads-back : ReadsBack
-reads-back h path m size written payload after t f done paid =
+reads-back h path stored size written payload after t f done paid =
     let k = known h path size done in
-    rw (same-value (sym done ∙ k .result)) (all-read h path m size payload after t f k paid)
+    rw (same-value (sym done ∙ k .result)) (all-read h path stored size payload after t f k paid)

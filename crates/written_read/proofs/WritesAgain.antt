@@ -14,7 +14,7 @@ use Rattle.wire_encoding.specs.BigEndian.{part}
 use Rattle.wire_encoding.proofs.Result.{same-value}
 use Rattle.wire_encoding.proofs.Lists.{Bytes, part-part, part-join, bytes-part}
 use Rattle.errors.specs.declared.packet_error.DecodeError.{DecodeError}
-use Rattle.path.specs.Dataplane.{Extent, headless, readDataplane}
+use Rattle.path.specs.Dataplane.{Extent, unread, readDataplane}
 use Rattle.packet_common_header.specs.CommonHeader.{commonAt, headerLength, hostLength, commonBytes, commonFits}
 use Rattle.packet_common_header.specs.declared.CommonHeader.{CommonHeader}
 use Rattle.packet_common_header.proofs.CommonHeaderLaws.{common-known, widths-fit}
@@ -38,7 +38,7 @@ added-whole : (type : ℕ) (path : List ℕ) {read : Extent} → readDataplane t
 unfolding addedBytes readDataplane
 added-whole type path {read} h whole = go (eqb type 0) path _ h whole
   where
-    go : (t : Bool) (path : List ℕ) (other : Result DecodeError Extent) → cond t (ok (headless 0)) other ≡ ok read → read .length ≡ length path
+    go : (t : Bool) (path : List ℕ) (other : Result DecodeError Extent) → cond t (ok (unread 0)) other ≡ ok read → read .length ≡ length path
         → cond t [] path ≡ path
     go false path other e whole = refl
     go true [] other e whole = refl

@@ -6,8 +6,8 @@ use mathlib.Core.List.{List, [], _∷_, _++_}
 use lib.ListN.{length, getD, take, drop}
 use Rattle.wire_encoding.specs.Result.{ok, mapped}
 use Rattle.wire_encoding.specs.BigEndian.{part}
-use Rattle.path_meta_header.specs.declared.PathMetaHeader.{PathMetaHeader}
 use Rattle.path.specs.Dataplane.{readDataplane}
+use Rattle.path.specs.declared.standard.StandardPath.{StandardPath}
 use Rattle.packet_common_header.specs.CommonHeader.{hostLength}
 use Rattle.packet_address_header.specs.AddressHeader.{kindOf, hostAt, addressLength, zeroAddress, hostBytes}
 use Rattle.packet_address_header.specs.declared.HostAddress.{HostAddress}
@@ -36,17 +36,17 @@ pub record Typed (h : ScionHeaders) : Type 0 where
   pub destination : length (h .address .destination .bytes) ≡ 16
   pub source : length (h .address .source .bytes) ≡ 16
 
--- a path that is read whole, under its header
-abbrev pub ReadWhole : ℕ → List ℕ → PathMetaHeader → Type 0
-ReadWhole type path m = readDataplane type path ≡ ok (record { header = m; length = length path })
+-- a path that is read whole, with its record
+abbrev pub ReadWhole : ℕ → List ℕ → StandardPath → Type 0
+ReadWhole type path stored = readDataplane type path ≡ ok (record { path = stored; length = length path })
 
 -- headers that fill their length: their version is the one that is read, 4 × factor is the length that is written, and the path is
 -- read whole. Others aren't read back: a factor that was rounded down leaves the last bytes of the path to the payload, and a larger
 -- one takes bytes from it.
-pub record Fills (h : ScionHeaders) (path : List ℕ) (m : PathMetaHeader) : Type 0 where
+pub record Fills (h : ScionHeaders) (path : List ℕ) (stored : StandardPath) : Type 0 where
   pub version : h .version ≡ 0
   pub full : 4 * h .«header_length_factor» ≡ headersLength (h .address) (h .«path_type») (length path)
-  pub path-read : ReadWhole (h .«path_type») (addedBytes (h .«path_type») path) m
+  pub path-read : ReadWhole (h .«path_type») (addedBytes (h .«path_type») path) stored
 
 -- a host as reading hands it back: by its kind, the bytes after its own zero
 unfoldable pub hostRead : HostAddress → HostAddress
@@ -61,13 +61,13 @@ addressRead a =
       source = hostRead (a .source);
     }
 
--- the packet that is read: every value, the path's bytes and the payload's
-unfoldable pub packetOf : ScionHeaders → List ℕ → PathMetaHeader → List ℕ → Packet
-packetOf h path m payload =
+-- the packet that is read: every value, the record of its path, the path's bytes and the payload's
+unfoldable pub packetOf : ScionHeaders → List ℕ → StandardPath → List ℕ → Packet
+packetOf h path stored payload =
     record {
       common = commonOf h;
       address = addressRead (h .address);
-      path = m;
+      path = stored;
       path-bytes = addedBytes (h .«path_type») path;
       payload = payload;
     }
@@ -75,9 +75,9 @@ packetOf h path m payload =
 -- headers that were written, and a payload of their length, are read back, whatever follows the payload
 abbrev pub ReadsBack : Type 0
 ReadsBack =
-    (h : ScionHeaders) (path : List ℕ) (m : PathMetaHeader) (size : ℕ) (written payload after : List ℕ) → Typed h → Fills h path m
+    (h : ScionHeaders) (path : List ℕ) (stored : StandardPath) (size : ℕ) (written payload after : List ℕ) → Typed h → Fills h path stored
     → writeHeaders h path size ≡ ok written → length payload ≡ h .«payload_length»
-    → readPacket (written ++ (payload ++ after)) ≡ ok (packetOf h path m payload)
+    → readPacket (written ++ (payload ++ after)) ≡ ok (packetOf h path stored payload)
 
 -- NEW HEADERS
 
@@ -91,8 +91,8 @@ NewHeadersFull =
 -- those of an empty path, and of a standard path that is read whole, do
 abbrev pub NewHeadersFill : Type 0
 NewHeadersFill =
-    (a : AddressHeader) (type : ℕ) (path : List ℕ) (m : PathMetaHeader) (next payload flow : ℕ) → type < 2
-    → ReadWhole type (addedBytes type path) m → Fills (newHeaders a type (length path) next payload flow) path m
+    (a : AddressHeader) (type : ℕ) (path : List ℕ) (stored : StandardPath) (next payload flow : ℕ) → type < 2
+    → ReadWhole type (addedBytes type path) stored → Fills (newHeaders a type (length path) next payload flow) path stored
 
 -- those of an opaque path of 3 bytes don't: they are written with factor 9, and a reader finds a path of no bytes, then the 3 bytes
 abbrev pub RoundedDown : Type 0

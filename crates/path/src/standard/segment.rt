@@ -5,6 +5,7 @@ use errors::path_error::Answer;
 use errors::path_error::PathError;
 ghost use mathlib.Core.Path.{_≡_};
 ghost use Rattle.wire_encoding.specs.Result.{refused};
+ghost use Rattle.path.specs.Standard.{noPath};
 ghost use Rattle.path.specs.Dataplane as spec;
 
 // A segment: where its info field and its hop fields lie; all zero where it was refused.
@@ -17,7 +18,7 @@ pub struct Segment {
 
 impl Segment {
     pub(crate) fn refused(error: PathError) -> Segment
-        ensures { λ r. ⌜ r ≡ spec.segment (refused error) (refused error) ⌝ }
+        ensures { λ r. ⌜ r ≡ spec.segment noPath (refused error) ⌝ }
     {
         let path = StandardPath::zero();
         Segment {

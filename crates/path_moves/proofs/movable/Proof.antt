@@ -3,8 +3,8 @@ use mathlib.Core.Path.{_≡_}
 use borrow.Author.Needs.{needs}
 use borrow.Author.Tests.{le-leb, lt-leb}
 use Rattle.wire_encoding.specs.Result.{ok}
-use Rattle.path.specs.Dataplane.{standard, pathAnswer}
-use Rattle.path.proofs.Reading.{answer-ok, answer-refused, standard-readable}
+use Rattle.path.specs.Dataplane.{standard, pathOf, pathAnswer}
+use Rattle.path.proofs.Reading.{answer-ok, answer-refused, record-is, standard-readable}
 use Rattle.path_moves.specs.Rules.{movable}
 use Rattle.path_moves.proofs.movable.Statement.{statement}
 use Rattle.path_moves.proofs.movable.Tie as tie
@@ -14,16 +14,16 @@ read : (c : tie.After-enum-told)
     → let call = c .before .before in
     let a = call .before .before .args in
     standard (a .path .«path_type») (a .bytes .now) ≡ ok (call .standard .result .path .«meta_header»)
-read c = answer-ok _ (c .before .before .standard .ensures) (c .enum-told .given .1)
+read c = answer-ok _ _ (c .before .before .standard .ensures) (c .enum-told .given .1)
 
 returns : tie.Need-returns
-unfolding movable
+unfolding movable pathAnswer
 returns c =
     let told = c .before .before in
-    rw (answer-refused _ (told .before .before .standard .ensures) (told .answer .given .1)) (c .refused .ensures)
+    rw (answer-refused (pathOf _ _) (standard _ _) (told .before .before .standard .ensures) (told .answer .given .1)) (c .refused .ensures)
 
 returns-2 : tie.Need-returns-2
-unfolding movable
+unfolding movable pathAnswer
 returns-2 c =
     let counted = c .before .before in
     rw (read (counted .before .before), ← counted .hop-fields-count .ensures .0, lt-leb _ _ (c .before .if1 .taken)) (c .refused2 .ensures)
@@ -42,11 +42,12 @@ returns-3 c =
       le-leb _ _ (allowed .before .if1 .left),
       ← allowed .peering-allowed .ensures,
       c .before .if2 .taken,
+      ← record-is _ _ (counted .before .before .before .before .standard .ensures) (counted .before .before .enum-told .given .1),
     )
     (c .accepted .ensures)
 
 returns-4 : tie.Need-returns-4
-unfolding movable
+unfolding movable pathAnswer
 returns-4 c =
     let allowed = c .before .before in
     let counted = allowed .before .before in

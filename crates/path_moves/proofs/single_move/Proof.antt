@@ -5,11 +5,11 @@ use native.Mathlib.Omega.{arith}
 use borrow.Author.Needs.{needs}
 use borrow.Author.Tests.{eq-eqb}
 use Rattle.path_meta_header.specs.MetaHeader.{hopFieldsCount}
-use Rattle.path.specs.Dataplane.{pathAnswer}
-use Rattle.path.proofs.Reading.{answer-ok, answer-refused}
+use Rattle.path.specs.Dataplane.{writtenAnswer}
+use Rattle.path.proofs.Reading.{answer-refused}
 use Rattle.path_moves.specs.Moves.{CanMove, move, moved, isLast}
-use Rattle.path_moves.proofs.Moves.{can-move, one-move, read-moved}
-use Rattle.path_moves.proofs.Rules.{goes-on}
+use Rattle.path_moves.proofs.Moves.{can-move, one-move, path-moved}
+use Rattle.path_moves.proofs.Rules.{movable-ok, goes-on}
 use Rattle.path_moves.proofs.single_move.Statement.{statement}
 use Rattle.path_moves.proofs.single_move.Tie as tie
 
@@ -25,13 +25,13 @@ can c =
     (λ last. c .before .if1 .left (omega arith))
 
 returns : tie.Need-returns
-unfolding moved move
+unfolding moved move writtenAnswer
 returns c =
     let told = c .before .before in
-    rw (answer-refused _ (told .before .before .movable .ensures) (told .answer .given .1)) (c .refused .ensures, refl)
+    rw (answer-refused _ _ (told .before .before .movable .ensures) (told .answer .given .1)) (c .refused .ensures, refl)
 
 returns-2 : tie.Need-returns-2
-unfolding moved move isLast
+unfolding moved move isLast writtenAnswer
 returns-2 c =
     let counted = c .before .before in
     let told = counted .before .before .before in
@@ -40,7 +40,7 @@ returns-2 c =
     let hop = counted .before .wide .ensures in
     let count = counted .hop-fields-count .ensures in
     rw (
-      answer-ok _ (read .movable .ensures) (told .enum-told .given .1),
+      movable-ok _ _ (read .movable .ensures) (told .enum-told .given .1),
       eq-eqb (m .«current_hop_field» + 1) (hopFieldsCount m) (omega arith),
     )
     (c .refused2 .ensures, refl)
@@ -49,7 +49,7 @@ step-requires : tie.Need-step-requires
 step-requires c κs = can c
 
 returns-3 : tie.Need-returns-3
-unfolding moved pathAnswer
+unfolding moved writtenAnswer
 returns-3 c =
     let made = c .before .before .before in
     let counted = made .before .before .before in
@@ -58,8 +58,9 @@ returns-3 c =
     let a = read .before .before .before .args in
     let bytes = read .before .before .slice-known .given in
     let here = can (made .before) in
-    rw (goes-on (a .path .«path_type») (a .bytes .now) (read .movable .ensures) (told .enum-told .given .1) .0, one-move _ _ here)
-    (rw (read-moved _ _ here bytes, ← made .step .ensures .0) (c .accepted .ensures), made .step .ensures .1)
+    let known = goes-on (a .path .«path_type») (a .bytes .now) (read .movable .ensures) (told .enum-told .given .1) in
+    rw (known .0, one-move _ _ here)
+    (rw (path-moved _ _ here bytes, ← made .step .ensures .0, ← known .2) (c .accepted .ensures), made .step .ensures .1)
 
 pub single-move-spec : {M : Type 1} → statement M
 single-move-spec =

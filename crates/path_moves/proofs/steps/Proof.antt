@@ -37,7 +37,7 @@ returns : tie.Need-returns Inv-loop μ-loop
 unfolding walkMoves
 returns c =
     let walk = c .before .loop .inv .0 in
-    (omega arith, stands _ _ _ _ walk)
+    (omega arith, stands _ _ _ _ walk (c .before .before .before .before .before .pre))
 
 same-length-2 : tie.Need-same-length-2 Inv-loop μ-loop
 same-length-2 c = c .before .before .loop .inv .0 .len
@@ -46,7 +46,7 @@ returns-2 : tie.Need-returns-2 Inv-loop μ-loop
 unfolding walkMoves
 returns-2 c =
     let walk = c .before .before .loop .inv .0 in
-    (omega arith, stands _ _ _ _ walk)
+    (omega arith, stands _ _ _ _ walk (c .before .before .before .before .before .before .pre))
 
 pub steps-spec : {M : Type 1} → statement M
 steps-spec =

@@ -5,7 +5,7 @@ use native.Mathlib.Omega.{arith}
 use borrow.Author.Needs.{needs}
 use Rattle.path.proofs.Reading.{answer-refused}
 use Rattle.path_moves.specs.Moves.{isLast, walkMoves, walked, walk, walkAnswer}
-use Rattle.path_moves.proofs.Rules.{goes-on, known}
+use Rattle.path_moves.proofs.Rules.{goes-on, goes-on-stored, known}
 use Rattle.path_moves.proofs.Walks.{way}
 use Rattle.path_moves.proofs.walk.Statement.{statement}
 use Rattle.path_moves.proofs.walk.Tie as tie
@@ -23,7 +23,7 @@ returns : tie.Need-returns
 unfolding walked walk walkAnswer
 returns c =
     let told = c .before .before in
-    rw (answer-refused _ (told .before .before .movable .ensures) (told .answer .given .1)) (c .refused .ensures, refl)
+    rw (answer-refused _ _ (told .before .before .movable .ensures) (told .answer .given .1)) (c .refused .ensures, refl)
 
 steps-requires : tie.Need-steps-requires
 steps-requires c κs =
@@ -45,7 +45,9 @@ returns-2 c =
     let a = read .before .before .before .args in
     let able = goes-on (a .path .«path_type») (a .bytes .now) (read .movable .ensures) (told .enum-told .given .1) in
     let steps = gone .steps .ensures in
-    rw (able .0, c .before .wide .ensures .0, c .hop-fields-count .ensures .0, way _ _ _ (able .1) (steps .0), steps .1 .0) (refl, steps .1 .1)
+    let stored = goes-on-stored (a .path .«path_type») (a .bytes .now) (read .movable .ensures) (told .enum-told .given .1) in
+    rw (able .0, c .before .wide .ensures .0, c .hop-fields-count .ensures .0, way _ _ _ (able .1) (steps .0), steps .1 .0, ← stored)
+    (refl, steps .1 .1)
 
 pub walk-spec : {M : Type 1} → statement M
 walk-spec =

@@ -4,7 +4,7 @@ use Rattle.scion_proto.proofs.paths.scion_expiry.Statement.{statement}
 use Rattle.scion_proto.proofs.paths.scion_expiry.Tie as tie
 
 returns : tie.Need-returns
-returns c = rw (← c .before .before .new .ensures, ← c .before .expiry-time .ensures .0) (c .expiry-out .ensures)
+returns c = rw (← c .before .before .new .ensures, ← c .before .expiry-time .ensures) (c .expiry-out .ensures)
 
 pub scion-expiry-spec : {M : Type 1} → statement M
 scion-expiry-spec =

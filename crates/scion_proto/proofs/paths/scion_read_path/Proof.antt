@@ -4,7 +4,7 @@ use Rattle.scion_proto.proofs.paths.scion_read_path.Statement.{statemen
 use Rattle.scion_proto.proofs.paths.scion_read_path.Tie as tie
 
 returns : tie.Need-returns
-returns c = rw (← c .before .before .new .ensures, ← c .before .decode .ensures) (c .path-read-out .ensures)
+returns c = rw (← c .before .before .new .ensures, ← c .before .decode .ensures .0) (c .path-read-out .ensures)
 
 pub scion-read-path-spec : {M : Type 1} → statement M
 scion-read-path-spec =

@@ -69,7 +69,7 @@ returns-3 c =
     let told = c .before .before in
     let read = told .before .before in
     let found = address (read .before .before .before .before) in
-    let seen = rw (read .before .before .new .ensures, sees-path found) at (read .decode2 .ensures) in
+    let seen = rw (read .before .before .new .ensures, sees-path found) at (read .decode2 .ensures .0) in
     rw (found .first .common, found .address, read-refused _ seen (told .path-answer .given .1)) (c .refused3 .ensures)
 
 -- the path
@@ -80,11 +80,11 @@ path : (c : tie.After-path) → let read = c .before .before .before in
     let d = h .before .before .before .before in
     PathFound (d .before .before .args .bytes .now) (d .decode .result .header) (h .header-end .result) (a .decode-with-context .result .header)
     (12 + a .decode-with-context .result .length)
-    (record { header = read .decode2 .result .path .«meta_header»; length = read .decode2 .result .length })
+    (record { path = read .decode2 .result .path; length = read .decode2 .result .length })
 path c =
     let read = c .before .before .before in
     let found = address (read .before .before .before .before) in
-    let seen = rw (read .before .before .new .ensures, sees-path found) at (read .decode2 .ensures) in
+    let seen = rw (read .before .before .new .ensures, sees-path found) at (read .decode2 .ensures .0) in
     record { second = found; path = read-ok _ seen (c .before .enum-told3 .given .1) }
 
 sub-if1 : tie.Need-sub-if1

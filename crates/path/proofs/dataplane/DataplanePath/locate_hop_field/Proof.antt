@@ -1,21 +1,23 @@
 -- `locate_hop_field` meets its contract: the order of calls on standard paths, then the offset.
-use Rattle.path.proofs.Reading.{answer-ok, answer-refused}
+use Rattle.path.proofs.Reading.{answer-ok, answer-refused, record-is}
 use Rattle.path.specs.Dataplane as spec
 use borrow.Author.Needs.{needs}
 use Rattle.path.proofs.dataplane.DataplanePath.locate_hop_field.Statement.{statement}
 use Rattle.path.proofs.dataplane.DataplanePath.locate_hop_field.Tie as tie
 
 returns : tie.Need-returns
-unfolding spec.hopFieldIn
+unfolding spec.hopFieldIn spec.located
 returns c =
     let told = c .before .before in
-    rw (answer-refused _ (told .before .before .standard .ensures) (told .answer .given .1)) (c .refused .ensures)
+    rw (answer-refused _ _ (told .before .before .standard .ensures) (told .answer .given .1)) (c .refused .ensures)
 
 returns-2 : tie.Need-returns-2
 unfolding spec.hopFieldIn
 returns-2 c =
     let told = c .before .before .before in
-    rw (answer-ok _ (told .before .before .standard .ensures) (told .enum-told .given .1), ← c .before .hop-field-offset .ensures) (c .at .ensures)
+    let read = told .before .before .standard .ensures in
+    let accepted = told .enum-told .given .1 in
+    rw (answer-ok _ _ read accepted, ← record-is _ _ read accepted, ← c .before .hop-field-offset .ensures) (c .at .ensures)
 
 pub locate-hop-field-spec : {M : Type 1} → statement M
 locate-hop-field-spec =

@@ -3,24 +3,24 @@ use Prim.Native.Nat.{_<_}
 use native.Mathlib.Omega.{arith}
 use borrow.Author.Tests.{lt-ltb, le-ltb}
 use Rattle.path_meta_header.specs.MetaHeader.{infoFieldsCount}
-use Rattle.path.proofs.Reading.{answer-ok, answer-refused}
+use Rattle.path.proofs.Reading.{answer-ok, answer-refused, record-is}
 use Rattle.path.specs.Dataplane as spec
 use borrow.Author.Needs.{needs}
 use Rattle.path.proofs.dataplane.DataplanePath.segment.Statement.{statement}
 use Rattle.path.proofs.dataplane.DataplanePath.segment.Tie as tie
 
 returns : tie.Need-returns
-unfolding spec.segmentIn
+unfolding spec.segmentIn spec.segment
 returns c =
     let told = c .before .before in
-    rw (answer-refused _ (told .before .before .standard .ensures) (told .answer .given .1)) (c .refused .ensures)
+    rw (answer-refused _ _ (told .before .before .standard .ensures) (told .answer .given .1)) (c .refused .ensures)
 
 returns-2 : tie.Need-returns-2
 unfolding spec.segmentIn spec.segment
 returns-2 c =
     let count = c .before .before in
     let told = count .before .before .before in
-    let read = answer-ok _ (told .before .before .standard .ensures) (told .enum-told .given .1) in
+    let read = answer-ok _ _ (told .before .before .standard .ensures) (told .enum-told .given .1) in
     rw (read, ← count .info-fields-count .ensures .0, le-ltb _ _ (c .before .if1 .taken))
     (c .refused2 .ensures)
 
@@ -30,11 +30,12 @@ returns-3 c =
     let start = c .before .before in
     let count = start .before .before in
     let told = count .before .before .before in
-    let read = answer-ok _ (told .before .before .standard .ensures) (told .enum-told .given .1) in
-    let header = told .before .before .standard .result .path .«meta_header» in
+    let call = told .before .before .standard in
+    let accepted = told .enum-told .given .1 in
+    let header = call .result .path .«meta_header» in
     let index = told .before .before .before .before .args .index in
     let there : index < infoFieldsCount header = omega arith in
-    rw (read, lt-ltb index (infoFieldsCount header) there)
+    rw (answer-ok _ _ (call .ensures) accepted, ← record-is _ _ (call .ensures) accepted, lt-ltb index (infoFieldsCount header) there)
     (rw (start .hop-fields-start .ensures .0, c .before .first-hop-field .ensures .0, c .segment-length .ensures .0))
 
 pub segment-spec : {M : Type 1} → statement M

@@ -1,11 +1,9 @@
 -- `PathAnswer::refused` meets its contract: the error beside zeros.
 use borrow.Author.Needs.{needs}
-use Rattle.path.specs.Dataplane.{pathAnswer}
 use Rattle.path.proofs.dataplane.PathAnswer.refused.Statement.{statement}
 use Rattle.path.proofs.dataplane.PathAnswer.refused.Tie as tie
 
 returns : tie.Need-returns
-unfolding pathAnswer
 returns c = rw (c .zero .ensures)
 
 pub refused-spec : {M : Type 1} → statement M

@@ -5,10 +5,10 @@ use mathlib.Core.Path.{_≡_}
 use native.Mathlib.Nat.{zero-add}
 use native.Mathlib.Omega.{arith}
 use lib.ListN.{length}
-use Rattle.path_expiry.specs.Expiry as spec
-use Rattle.path_expiry.proofs.ExpiryLaws.{least-more}
-use Rattle.path_expiry.proofs.least_exp_time.Statement.{statement}
-use Rattle.path_expiry.proofs.least_exp_time.Tie as tie
+use Rattle.path_least_expiry.specs.Expiry as spec
+use Rattle.path_least_expiry.proofs.Least.{least-more}
+use Rattle.path_least_expiry.proofs.least_exp_time.Statement.{statement}
+use Rattle.path_least_expiry.proofs.least_exp_time.Tie as tie
 
 abbrev Inv-loop : tie.InvT-loop
 Inv-loop hop-fields count least₀ last₀ least last = (last < count) × (least ≡ spec.least (spec.expTimeAt hop-fields 0) last)

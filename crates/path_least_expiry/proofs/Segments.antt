@@ -1,35 +1,18 @@
--- The least of several numbers, and the expiry of a segment by the least expiry byte of its run.
+-- The expiry of a segment by the least expiry byte of its run.
 -- Assumes nothing.
 use Prim.Native.Nat.{ℕ, zero, suc, _+_, _*_, _-_, _/_, _<_, _≤_, min}
-use mathlib.Core.Path.{_≡_, refl, sym, ap, ap₂, _∙_}
+use mathlib.Core.Path.{_≡_, refl, sym, ap, _∙_}
 use mathlib.Core.List.{List}
-use native.Mathlib.Numerals.{add-one}
 use native.Mathlib.Omega.{arith}
 use lib.ListN.{length, getD}
-use Rattle.wire_encoding.specs.Result.{Result, ok, refused, orElse}
 use Rattle.wire_encoding.specs.BigEndian.{bigEndian, part}
 use Rattle.wire_encoding.proofs.Lists.{length-part, getD-part}
-use Rattle.path_meta_header.specs.MetaHeader.{metaOf, infoFieldsCount, firstHopField, segmentLength, pathLength, infoStart, hopStart}
-use Rattle.path_fields.specs.Fields.{infoFieldAt, hopFieldAt, expiryOffset, expiryTime}
+use Rattle.path_meta_header.specs.MetaHeader.{infoFieldsCount, firstHopField, segmentLength, pathLength, infoStart, hopStart}
 use Rattle.path_meta_header.specs.declared.PathMetaHeader.{PathMetaHeader}
-use Rattle.path.specs.Standard.{pathUnder}
-use Rattle.path.proofs.Segment.{inside}
-use Rattle.path_expiry.specs.Expiry.{least, expTimeAt, hopExpiry, segmentExpiry, expiryFound}
-use Rattle.errors.specs.declared.path_error.Answer.the-variants as answer
-use Rattle.errors.specs.declared.path_error.PathError.{PathError}
-use Rattle.errors.proofs.Errors as told
-use Rattle.path_expiry.specs.declared.Expiry.{Expiry}
-
--- one more number, as a loop takes it
-pub least-more : (f : ℕ → ℕ) (last : ℕ) → least f (last + 1) ≡ min (least f last) (f (last + 1))
-unfolding least
-least-more f last = rw add-one
-
--- numbers that are equal one by one have the same least
-pub least-same : (f g : ℕ → ℕ) (last : ℕ) → ((j : ℕ) → j ≤ last → f j ≡ g j) → least f last ≡ least g last
-unfolding least
-least-same f g zero e = e 0 (omega arith)
-least-same f g (suc last) e = ap₂ min (least-same f g last (λ j h. e j (omega arith))) (e (suc last) (omega arith))
+use Rattle.path_meta_header.proofs.Segment.{inside}
+use Rattle.path_fields.specs.Fields.{infoFieldAt, hopFieldAt, expiryOffset, expiryTime}
+use Rattle.path_least_expiry.specs.Expiry.{least, expTimeAt, hopExpiry, segmentExpiry}
+use Rattle.path_least_expiry.proofs.Least.{least-same}
 
 -- a later expiry byte is a later expiry, so the least byte gives the least expiry
 expiry-min : (time a b : ℕ) → min (expiryTime time a) (expiryTime time b) ≡ expiryTime time (min a b)
@@ -67,17 +50,3 @@ module _ (bytes : List ℕ) (m : PathMetaHeader) (k : ℕ) (there : k < infoFiel
       ap (λ (n : ℕ). expiryTime time (least (expTimeAt (hopRun bytes m k) 0) n)) last
       ∙ sym (least-expiry time (expTimeAt (hopRun bytes m k) 0) (segmentLength m k - 1))
       ∙ least-same _ _ (segmentLength m k - 1) (λ j h. ap (expiryTime time) (byte-in-run j (omega (arith, inside bytes m k there whole .one))))
-
--- what a caller of `expiry_time` learns
-module _ (path : Result PathError PathMetaHeader) (r : Result PathError ℕ) {call : Expiry} (is : call ≡ expiryFound path r) where
-  pub expiry-ok : call .answer ≡ answer.Accepted → r ≡ ok (call .ms)
-  unfolding expiryFound
-  expiry-ok h = told.answer-ok r 0 (ap (λ (x : Expiry). x .answer) is) (ap (λ (x : Expiry). x .ms) is) h
-
-  pub recorded : call .answer ≡ answer.Accepted → call .path ≡ pathUnder (orElse path (metaOf 0))
-  unfolding expiryFound
-  recorded h = ap (λ (x : Expiry). x .path) is ∙ rw (expiry-ok h)
-
-  pub expiry-refused : {error : PathError} → call .answer ≡ answer.Refused error → r ≡ refused error
-  unfolding expiryFound
-  expiry-refused h = told.answer-refused r (ap (λ (x : Expiry). x .answer) is) h

@@ -3,11 +3,11 @@
 use native.Mathlib.Nat.{add-sub-cancel-left}
 use native.Mathlib.Omega.{arith}
 use lib.ListN.{length-take, length-drop}
-use Rattle.path.proofs.Segment.{Inside, inside}
-use Rattle.path_expiry.proofs.ExpiryLaws.{expiry-by-run}
+use Rattle.path_meta_header.proofs.Segment.{Inside, inside}
+use Rattle.path_least_expiry.proofs.Segments.{expiry-by-run}
 use borrow.Author.Needs.{needs}
-use Rattle.path_expiry.proofs.segment_expiry.Statement.{statement}
-use Rattle.path_expiry.proofs.segment_expiry.Tie as tie
+use Rattle.path_least_expiry.proofs.segment_expiry.Statement.{statement}
+use Rattle.path_least_expiry.proofs.segment_expiry.Tie as tie
 
 -- where the segment lies
 lies : (c : tie.Start) → Inside (c .args .bytes .now) (c .args .meta-header) (c .args .k)

@@ -11,8 +11,8 @@ use lib.Signed.{mag}
 use mir.Syntax.{w64}
 use mir.Val.{toZ}
 use mir.Facts.{toZ-pos, toZ-ofZ}
-use Rattle.path_expiry.proofs.left.Statement.{statement}
-use Rattle.path_expiry.proofs.left.Tie as tie
+use Rattle.path.proofs.standard.time_left.left.Statement.{statement}
+use Rattle.path.proofs.standard.time_left.left.Tie as tie
 
 -- one natural number less another, as integers
 minus : (a b : ℕ) → pos a -ℤ pos b ≡ subℕ a b

@@ -4,8 +4,8 @@ use Prim.Native.Nat.{_+_}
 use native.Mathlib.Omega.{arith}
 use Rattle.wire_encoding.proofs.BigEndian.{or-zero-is}
 use borrow.Author.Needs.{needs}
-use Rattle.path_expiry.proofs.timestamp_at.Statement.{statement}
-use Rattle.path_expiry.proofs.timestamp_at.Tie as tie
+use Rattle.path_least_expiry.proofs.timestamp_at.Statement.{statement}
+use Rattle.path_least_expiry.proofs.timestamp_at.Tie as tie
 
 returns : tie.Need-returns
 returns c = c .u32-or-zero .ensures ∙ or-zero-is 4 (c .before .before .args .bytes .now) (c .before .before .args .at + 4) (omega arith)

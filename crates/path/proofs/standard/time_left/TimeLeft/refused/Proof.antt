@@ -1,8 +1,8 @@
 -- `TimeLeft::refused` meets its contract: the error beside zeros.
-use Rattle.path_expiry.specs.Expiry as spec
+use Rattle.path.specs.TimeLeft as spec
 use borrow.Author.Needs.{needs}
-use Rattle.path_expiry.proofs.TimeLeft.refused.Statement.{statement}
-use Rattle.path_expiry.proofs.TimeLeft.refused.Tie as tie
+use Rattle.path.proofs.standard.time_left.TimeLeft.refused.Statement.{statement}
+use Rattle.path.proofs.standard.time_left.TimeLeft.refused.Tie as tie
 
 returns : tie.Need-returns
 unfolding spec.timeLeftFound

@@ -4,14 +4,14 @@ use Prim.Native.Nat.{_-_, _<_, _≤_}
 use mathlib.Core.Path.{_≡_}
 use native.Mathlib.Omega.{arith}
 use Rattle.path_meta_header.specs.MetaHeader.{infoFieldsCount}
-use Rattle.path_expiry.specs.Expiry as spec
-use Rattle.path_expiry.proofs.ExpiryLaws.{least-more}
-use Rattle.path_expiry.proofs.path_expiry.Statement.{statement}
-use Rattle.path_expiry.proofs.path_expiry.Tie as tie
+use Rattle.path_least_expiry.specs.Expiry as spec
+use Rattle.path_least_expiry.proofs.Least.{least-more}
+use Rattle.path_least_expiry.proofs.path_expiry.Statement.{statement}
+use Rattle.path_least_expiry.proofs.path_expiry.Tie as tie
 
 abbrev Inv-loop : tie.InvT-loop
 Inv-loop bytes meta-header count least₀ last₀ least last =
-    (last < count) × (least ≡ spec.least (spec.segmentExpiry bytes meta-header) last) × (least ≤ 4295053695000)
+    (last < count) × (least ≡ spec.least (spec.segmentExpiry bytes meta-header) last) × (least ≤ spec.largestExpiry)
 
 abbrev μ-loop : tie.MeasureT-loop
 μ-loop bytes meta-header count least₀ last₀ least last = count - last
