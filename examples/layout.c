@@ -10,31 +10,32 @@
 #define AT(type, field, offset) _Static_assert(offsetof(type, field) == (offset), #type "." #field)
 
 /* What every answer on a path begins with. */
-#define PATH_FIRST(type) AT(type, answer, 0); AT(type, path, 2)
+#define PATH_FIRST(type) AT(type, answer, 0); AT(type, path, 8)
 
 SIZE(size_t, 8);
 SIZE(ScionAnswer, 2); AT(ScionAnswer, number, 0); AT(ScionAnswer, value, 1);
-SIZE(ScionPath, 6); AT(ScionPath, current_info_field, 0); AT(ScionPath, current_hop_field, 1); AT(ScionPath, reserved, 2);
-AT(ScionPath, segment_lengths, 3);
+SIZE(ScionPath, 16); AT(ScionPath, current_info_field, 0); AT(ScionPath, current_hop_field, 1); AT(ScionPath, reserved, 2);
+AT(ScionPath, segment_lengths, 3); AT(ScionPath, expiry, 8);
+_Static_assert(_Alignof(ScionPath) == 8, "alignment of ScionPath");
 SIZE(ScionPart, 16); AT(ScionPart, start, 0); AT(ScionPart, len, 8);
 SIZE(ScionHost, 20); AT(ScionHost, kind, 0); AT(ScionHost, service, 2); AT(ScionHost, bytes, 4);
-SIZE(ScionPathAnswer, 8); PATH_FIRST(ScionPathAnswer);
-SIZE(ScionPathRead, 16); PATH_FIRST(ScionPathRead); AT(ScionPathRead, length, 8);
-SIZE(ScionInfoField, 24); PATH_FIRST(ScionInfoField); AT(ScionInfoField, start, 8); AT(ScionInfoField, flags, 16);
-AT(ScionInfoField, reserved, 17); AT(ScionInfoField, accumulator, 18); AT(ScionInfoField, timestamp, 20);
-SIZE(ScionHopField, 32); PATH_FIRST(ScionHopField); AT(ScionHopField, start, 8); AT(ScionHopField, flags, 16);
-AT(ScionHopField, exp_time, 17); AT(ScionHopField, cons_ingress, 18); AT(ScionHopField, cons_egress, 20); AT(ScionHopField, mac, 22);
-SIZE(ScionSegment, 40); PATH_FIRST(ScionSegment); AT(ScionSegment, info_field, 8); AT(ScionSegment, hop_fields, 24);
-SIZE(ScionExpiry, 16); PATH_FIRST(ScionExpiry); AT(ScionExpiry, ms, 8);
-SIZE(ScionTimeLeft, 16); PATH_FIRST(ScionTimeLeft); AT(ScionTimeLeft, ms, 8);
-SIZE(ScionInterfaceCount, 16); PATH_FIRST(ScionInterfaceCount); AT(ScionInterfaceCount, count, 8);
-SIZE(ScionInterface, 24); PATH_FIRST(ScionInterface); AT(ScionInterface, hop_field, 8); AT(ScionInterface, id, 16);
-SIZE(ScionWalk, 24); PATH_FIRST(ScionWalk); AT(ScionWalk, moves, 8); AT(ScionWalk, arrived, 16);
-SIZE(ScionPacket, 112); PATH_FIRST(ScionPacket); AT(ScionPacket, version, 8); AT(ScionPacket, traffic_class, 9);
-AT(ScionPacket, next_header, 10); AT(ScionPacket, header_length_factor, 11); AT(ScionPacket, path_type, 12);
-AT(ScionPacket, payload_length, 14); AT(ScionPacket, reserved, 16); AT(ScionPacket, flow_id, 20);
-AT(ScionPacket, destination_ia, 24); AT(ScionPacket, source_ia, 32); AT(ScionPacket, destination, 40); AT(ScionPacket, source, 60);
-AT(ScionPacket, path_part, 80); AT(ScionPacket, payload_part, 96);
+SIZE(ScionPathAnswer, 24); PATH_FIRST(ScionPathAnswer);
+SIZE(ScionPathRead, 32); PATH_FIRST(ScionPathRead); AT(ScionPathRead, length, 24);
+SIZE(ScionInfoField, 40); PATH_FIRST(ScionInfoField); AT(ScionInfoField, start, 24); AT(ScionInfoField, flags, 32);
+AT(ScionInfoField, reserved, 33); AT(ScionInfoField, accumulator, 34); AT(ScionInfoField, timestamp, 36);
+SIZE(ScionHopField, 48); PATH_FIRST(ScionHopField); AT(ScionHopField, start, 24); AT(ScionHopField, flags, 32);
+AT(ScionHopField, exp_time, 33); AT(ScionHopField, cons_ingress, 34); AT(ScionHopField, cons_egress, 36); AT(ScionHopField, mac, 38);
+SIZE(ScionSegment, 56); PATH_FIRST(ScionSegment); AT(ScionSegment, info_field, 24); AT(ScionSegment, hop_fields, 40);
+SIZE(ScionExpiry, 32); PATH_FIRST(ScionExpiry); AT(ScionExpiry, ms, 24);
+SIZE(ScionTimeLeft, 32); PATH_FIRST(ScionTimeLeft); AT(ScionTimeLeft, ms, 24);
+SIZE(ScionInterfaceCount, 32); PATH_FIRST(ScionInterfaceCount); AT(ScionInterfaceCount, count, 24);
+SIZE(ScionInterface, 40); PATH_FIRST(ScionInterface); AT(ScionInterface, hop_field, 24); AT(ScionInterface, id, 32);
+SIZE(ScionWalk, 40); PATH_FIRST(ScionWalk); AT(ScionWalk, moves, 24); AT(ScionWalk, arrived, 32);
+SIZE(ScionPacket, 128); PATH_FIRST(ScionPacket); AT(ScionPacket, version, 24); AT(ScionPacket, traffic_class, 25);
+AT(ScionPacket, next_header, 26); AT(ScionPacket, header_length_factor, 27); AT(ScionPacket, path_type, 28);
+AT(ScionPacket, payload_length, 30); AT(ScionPacket, reserved, 32); AT(ScionPacket, flow_id, 36);
+AT(ScionPacket, destination_ia, 40); AT(ScionPacket, source_ia, 48); AT(ScionPacket, destination, 56); AT(ScionPacket, source, 76);
+AT(ScionPacket, path_part, 96); AT(ScionPacket, payload_part, 112);
 SIZE(ScionHeaders, 88); AT(ScionHeaders, version, 0); AT(ScionHeaders, traffic_class, 1); AT(ScionHeaders, next_header, 2);
 AT(ScionHeaders, path_type, 3); AT(ScionHeaders, reserved, 4); AT(ScionHeaders, flow_id, 8);
 AT(ScionHeaders, header_length_factor, 16); AT(ScionHeaders, payload_length, 24); AT(ScionHeaders, destination_ia, 32);
@@ -54,9 +55,22 @@ static size_t build(uint8_t *b, unsigned s0, unsigned s1, unsigned s2, unsigned 
     return len;
 }
 
+/* Whether a record has these numbers. */
+static bool is_record(ScionPath p, unsigned info, unsigned hop, unsigned reserved, unsigned s0, unsigned s1, unsigned s2, uint64_t ms) {
+    return p.current_info_field == info && p.current_hop_field == hop && p.reserved == reserved && p.segment_lengths[0] == s0
+        && p.segment_lengths[1] == s1 && p.segment_lengths[2] == s2 && p.expiry == ms;
+}
+
+/* Whether a record is all zero, as for other types and on a refusal. */
+static bool is_zero(ScionPath p) {
+    return is_record(p, 0, 0, 0, 0, 0, 0, 0);
+}
+
+/* When the path of segment lengths 1, 2, 3 expires: by its first hop field, which has the least timestamp. */
+static const uint64_t first_expiry = 0x48494A4Bull * 1000 + 337500ull * (1 + 0x5D);
+
 static bool ok(ScionAnswer a, ScionPath p, unsigned hop) {
-    return a.number == 0 && a.value == 0 && p.current_info_field == 2 && p.current_hop_field == hop && p.reserved == 0x2A
-        && p.segment_lengths[0] == 1 && p.segment_lengths[1] == 2 && p.segment_lengths[2] == 3;
+    return a.number == 0 && a.value == 0 && is_record(p, 2, hop, 0x2A, 1, 2, 3, first_expiry);
 }
 
 static bool is_host(ScionHost h, unsigned kind, unsigned service, const uint8_t *bytes, size_t n) {
@@ -85,7 +99,7 @@ int main(void) {
     ScionExpiry expiry = scion_segment_expiry(1, path, len, 2);
     CHECK(ok(expiry.answer, expiry.path, 4) && expiry.ms == 0x58595A5Bull * 1000 + 337500ull * (1 + 0x81));
     expiry = scion_expiry(1, path, len);
-    CHECK(ok(expiry.answer, expiry.path, 4) && expiry.ms != 0);
+    CHECK(ok(expiry.answer, expiry.path, 4) && expiry.ms == first_expiry);
     ScionTimeLeft left = scion_time_left(1, path, len, expiry.ms + 7);
     CHECK(ok(left.answer, left.path, 4) && left.ms == -7);
     ScionInterfaceCount count = scion_interfaces_count(1, path, len);
@@ -98,10 +112,35 @@ int main(void) {
     memcpy(b, path, len);
     ScionWalk walk = scion_walk(1, b, len, SIZE_MAX);
     CHECK(ok(walk.answer, walk.path, 5) && walk.moves == 1 && walk.arrived);
-    CHECK(scion_set_ingress_router_alert(1, b, len, 4, true).answer.number == 0 && b[76] == 0x8E);
-    CHECK(scion_set_egress_router_alert(1, b, len, 4, true).answer.number == 0 && b[76] == 0x8F);
-    CHECK(scion_copy_path(1, path, len, dst, len).answer.number == 0 && memcmp(dst, path, len) == 0);
-    CHECK(scion_reverse_path(1, path, len, dst, len).path.segment_lengths[0] == 3);
+    ScionPathAnswer alerted = scion_set_ingress_router_alert(1, b, len, 4, true);
+    CHECK(ok(alerted.answer, alerted.path, 5) && b[76] == 0x8E);
+    alerted = scion_set_egress_router_alert(1, b, len, 4, true);
+    CHECK(ok(alerted.answer, alerted.path, 5) && b[76] == 0x8F);
+    ScionPathAnswer copied = scion_copy_path(1, path, len, dst, len);
+    CHECK(ok(copied.answer, copied.path, 4) && memcmp(dst, path, len) == 0);
+    ScionPathAnswer reversed = scion_reverse_path(1, path, len, dst, len);
+    CHECK(reversed.answer.number == 0 && is_record(reversed.path, 0, 0, 0, 3, 2, 1, first_expiry));
+
+    /* The calls on a record: of one that was handed back, and of one made by hand, which comes back as it was given. */
+    ScionPath made = {0xF1, 0xF2, 0xF3, {0xF4, 0xF5, 0xF6}, UINT64_MAX};
+    CHECK(scion_record_expiry(read.path) == first_expiry && scion_record_expiry(made) == UINT64_MAX);
+    left = scion_record_time_left(read.path, first_expiry + 7);
+    CHECK(ok(left.answer, left.path, 4) && left.ms == -7);
+    made.expiry = 338500;
+    left = scion_record_time_left(made, 338501);
+    CHECK(left.answer.number == 0 && left.ms == -1 && is_record(left.path, 0xF1, 0xF2, 0xF3, 0xF4, 0xF5, 0xF6, 338500));
+    made.expiry = SCION_MAX_EXPIRY;
+    CHECK(scion_record_time_left(made, 0).ms == (int64_t)SCION_MAX_EXPIRY);
+    left = scion_record_time_left(made, SCION_MAX_NOW + 1);
+    CHECK(left.answer.number == SCION_NUMBER_TOO_WIDE && left.ms == 0 && is_zero(left.path));
+    made.expiry = SCION_MAX_EXPIRY + 1;
+    left = scion_record_time_left(made, 0);
+    CHECK(left.answer.number == SCION_NUMBER_TOO_WIDE && left.ms == 0 && is_zero(left.path));
+
+    /* No expiry: the record of other types and of a refusal is all zero. */
+    CHECK(is_zero(scion_read_path(SCION_PATH_EMPTY, path, len).path) && is_zero(scion_read_path(2, path, len).path));
+    CHECK(is_zero(scion_read_path(1, path, len - 1).path) && is_zero(scion_hop_field(1, path, len, 6).path));
+    CHECK(is_zero(scion_copy_path(1, path, len, dst, len + 1).path) && is_zero(scion_copy_path(2, path, len, dst, len).path));
 
     /* Headers: an IPv6 destination, a service as source. They are written, and read back as a packet. */
     ScionHost to = {SCION_HOST_IPV6, 0, {1, 2, 3, 4, 5, 6, 7, 8, 9, 10, 11, 12, 13, 14, 15, 16}};

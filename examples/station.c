@@ -78,9 +78,9 @@ static void check_interfaces(uint8_t type, const uint8_t *path, size_t len) {
     printf("interfaces: all %zu are listed\n", interfaces.count);
 }
 
-/* The path must outlive the flight. */
-static void check_time(uint8_t type, const uint8_t *path, size_t len, uint64_t now) {
-    ScionTimeLeft left = scion_time_left(type, path, len, now);
+/* The path must outlive the flight. When it expires stands in the packet's record: no byte is read again. */
+static void check_time(ScionPath path, uint64_t now) {
+    ScionTimeLeft left = scion_record_time_left(path, now);
     accept("time left", left.answer);
     if (left.ms <= flight) {
         printf("the path has %lld ms left, the flight takes %lld\n", (long long)left.ms, (long long)flight);
@@ -145,8 +145,13 @@ int main(int argc, char **argv) {
         reply_to(&packet, path);
         return 0;
     }
+    /* Only a standard path has interfaces and an expiry: the record of any other is zero, and its 0 is no expiry. */
+    if (type != SCION_PATH_STANDARD) {
+        printf("path refused: type %u is not a standard path, and has no expiry\n", type);
+        return 1;
+    }
     check_interfaces(type, path, path_len);
-    check_time(type, path, path_len, now);
+    check_time(packet.path, now);
 
     if (has_arrived(packet.path)) {
         reply_to(&packet, path);

@@ -7,7 +7,7 @@
  *
  * Every call on a packet or a path reads it first and answers with a number: 0 is accepted, 1 to 15 are refusals, below. A refusal
  * hands back zeros in every other field (2 and 3 also their value) and changes no lent byte. Any type byte, index, size and contents
- * will do.
+ * will do. The two calls on a record, scion_record_expiry and scion_record_time_left, take it alone and look at no bytes.
  *
  * What is asked of the caller is memory, and nothing else:
  * - `bytes` points to `len` bytes that can be read, and written where it isn't const; so do `path` and `dst`. NULL with length 0
@@ -27,7 +27,7 @@
 #include <stdint.h>
 
 /* Raised whenever a struct or a call changes. Header and archive have to be of one commit; examples/layout.c checks that they agree. */
-#define SCION_PROTO_VERSION 1
+#define SCION_PROTO_VERSION 2
 
 #ifdef __cplusplus
 extern "C" {
@@ -45,7 +45,7 @@ enum {
     SCION_LEFT_OVER_BYTES = 7,      /* bytes between the path and the end of the header */
     SCION_NO_SUCH_FIELD = 8,        /* no such info field, segment, hop field or interface, or not a standard path */
     SCION_DESTINATION_SIZE = 9,     /* destination not of the exact size */
-    SCION_NUMBER_TOO_WIDE = 10,     /* a number wider than its field, or a time above SCION_MAX_NOW */
+    SCION_NUMBER_TOO_WIDE = 10,     /* a number wider than its field, or a time above SCION_MAX_NOW or SCION_MAX_EXPIRY */
     SCION_PAYLOAD_TOO_LARGE = 11,   /* payload above 65,535 bytes */
     SCION_HEADER_TOO_LARGE = 12,    /* header length factor above 255 */
     SCION_TOO_MANY_HOP_FIELDS = 13, /* more than 64 hop fields */
@@ -77,6 +77,9 @@ enum { SCION_HOP_EGRESS_ALERT = 0x01, SCION_HOP_INGRESS_ALERT = 0x02 };
 /* The latest `now` that is taken: ms since 1970, the year 2255. */
 #define SCION_MAX_NOW UINT64_C(9000000000000)
 
+/* The latest expiry that a path can have: ms since 1970, the year 2106. */
+#define SCION_MAX_EXPIRY UINT64_C(4295053695000)
+
 /* A network's number (IA): the ISD in the high 16 bits, the AS in the low 48. */
 #define SCION_ISD(ia) ((uint16_t)((uint64_t)(ia) >> 48))
 #define SCION_AS(ia) ((uint64_t)(ia) & UINT64_C(0xFFFFFFFFFFFF))
@@ -90,12 +93,20 @@ typedef struct {
 
 /* The record of a standard path as the call leaves it, of the path written where it is copied or reversed; all zero for other types
  * and on a refusal. The pointers count info fields and hop fields from 0. Segment k has segment_lengths[k] hop fields, 0 where there
- * is no such segment; hop fields count through all segments. A packet has arrived when current_hop_field is the last. */
+ * is no such segment; hop fields count through all segments. A packet has arrived when current_hop_field is the last.
+ *
+ * `expiry` is when the path expires, in ms since 1970: the least of its hop fields', from 337,500 to SCION_MAX_EXPIRY. An `expiry` of
+ * 0 IS NO EXPIRY, and not a path that expired in 1970: there is no standard path here, for the path is of another type or the call
+ * was refused. Look at the answer and the path type before you use it.
+ *
+ * A record tells of the bytes as the call left them. One that was kept says nothing about bytes that were changed since by other
+ * means: read those again. */
 typedef struct {
     uint8_t current_info_field;
     uint8_t current_hop_field;
     uint8_t reserved;
     uint8_t segment_lengths[3];
+    uint64_t expiry;
 } ScionPath;
 
 /* A part of the caller's bytes: `len` bytes from `start` on. */
@@ -245,9 +256,18 @@ ScionTimeLeft scion_time_left(uint8_t path_type, const uint8_t *bytes, size_t le
 ScionInterfaceCount scion_interfaces_count(uint8_t path_type, const uint8_t *bytes, size_t len);
 ScionInterface scion_interface(uint8_t path_type, const uint8_t *bytes, size_t len, size_t index);
 
+/* Times of a record, by the `expiry` stored in it; no bytes are looked at. scion_record_expiry hands over that number, whatever it
+ * is. scion_record_time_left hands over that number less `now`, and the record given as its `path`; it answers 10 where the number is
+ * above SCION_MAX_EXPIRY or `now` above SCION_MAX_NOW, and has no other refusal. For a standard path's record both agree with
+ * scion_expiry and scion_time_left of the bytes as the call that handed the record back left them.
+ * - 0 is taken as a number here, and gives 0 less `now`: rule out the records of no standard path first, as said at ScionPath.
+ * - Any record may be given. For one that was made or changed by hand this is arithmetic and nothing else: it stands for no path. */
+uint64_t scion_record_expiry(ScionPath path);
+ScionTimeLeft scion_record_time_left(ScionPath path, uint64_t now);
+
 /* Changes to a path in place. An alert flag of hop field `index` is set or cleared. A move takes the path one hop field on as the
  * routers in between do; 15 where the packet has arrived. A walk makes moves until the packet has arrived, or `limit` of them. Both
- * answer 13 and 14 where these hold. */
+ * answer 13 and 14 where these hold. None of these calls changes when the path expires. */
 ScionPathAnswer scion_set_ingress_router_alert(uint8_t path_type, uint8_t *bytes, size_t len, size_t index, bool on);
 ScionPathAnswer scion_set_egress_router_alert(uint8_t path_type, uint8_t *bytes, size_t len, size_t index, bool on);
 ScionPathAnswer scion_move(uint8_t path_type, uint8_t *bytes, size_t len);
@@ -255,7 +275,7 @@ ScionWalk scion_walk(uint8_t path_type, uint8_t *bytes, size_t len, size_t limit
 
 /* A path copied, or reversed, into a destination of its exact length (ScionPathRead's `length`; all bytes of an opaque path). An
  * empty path writes nothing, and its destination may have any size. The reply's path is the reverse of the path of a packet that has
- * arrived: walk a copy to its end first where it has not. bytes and dst must not overlap. */
+ * arrived: walk a copy to its end first where it has not. It expires when the path does. bytes and dst must not overlap. */
 ScionPathAnswer scion_copy_path(uint8_t path_type, const uint8_t *bytes, size_t len, uint8_t *dst, size_t dst_len);
 ScionPathAnswer scion_reverse_path(uint8_t path_type, const uint8_t *bytes, size_t len, uint8_t *dst, size_t dst_len);
 

@@ -90,6 +90,13 @@ fn rust_path(bytes: &Bytes) -> DataplanePath {
     DataplanePath::decode_with_context(&mut bytes, (PathType::Scion, length)).expect("a path that is read")
 }
 
+/// The Rust computing the expiry of a path that it has read.
+fn rust_expiry(path: &DataplanePath) {
+    if let DataplanePath::Standard(path) = path {
+        black_box(path.expiry_time());
+    }
+}
+
 /// A loop over inputs in turn.
 fn over<T: 'static>(inputs: Vec<T>, mut call: impl FnMut(&T) + 'static) -> Loop {
     assert_eq!(inputs.len(), INPUTS);
@@ -115,6 +122,22 @@ fn packet_row(inputs: &Inputs) -> Loops {
     Loops { rust: Some(rust), plain: Some(plain), ours }
 }
 
+/// Packets split, and the expiry of their paths.
+fn packet_expiry_row(inputs: &Inputs) -> Loops {
+    let rust = over(kept(&inputs.packets), |bytes| {
+        let mut bytes = bytes.clone();
+        let packet = black_box(ScionPacketRaw::decode(&mut bytes)).expect("a packet that is read");
+        rust_expiry(&packet.headers.path);
+    });
+    let plain = over(inputs.packets.clone(), |bytes| {
+        black_box(plain::record_expiry(black_box(plain::read_packet(bytes)).path));
+    });
+    let ours = over(inputs.packets.clone(), |bytes| {
+        black_box(calls::record_expiry(black_box(calls::read_packet(bytes)).path));
+    });
+    Loops { rust: Some(rust), plain: Some(plain), ours }
+}
+
 /// Paths read.
 fn path_row(inputs: &Inputs) -> Loops {
     let rust = over(kept(&inputs.paths), |bytes| {
@@ -129,12 +152,24 @@ fn path_row(inputs: &Inputs) -> Loops {
     Loops { rust: Some(rust), plain: Some(plain), ours }
 }
 
-/// Paths read and their expiry computed.
+/// Paths read, and the expiry of their records.
+fn path_expiry_row(inputs: &Inputs) -> Loops {
+    let rust = over(kept(&inputs.paths), |bytes| {
+        rust_expiry(&black_box(rust_path(bytes)));
+    });
+    let plain = over(inputs.paths.clone(), |bytes| {
+        black_box(plain::record_expiry(black_box(plain::read_path(1, bytes)).path));
+    });
+    let ours = over(inputs.paths.clone(), |bytes| {
+        black_box(calls::record_expiry(black_box(calls::read_path(1, bytes)).path));
+    });
+    Loops { rust: Some(rust), plain: Some(plain), ours }
+}
+
+/// The expiry of paths by their bytes.
 fn expiry_row(inputs: &Inputs) -> Loops {
     let rust = over(kept(&inputs.paths), |bytes| {
-        if let DataplanePath::Standard(path) = rust_path(bytes) {
-            black_box(path.expiry_time());
-        }
+        rust_expiry(&rust_path(bytes));
     });
     let plain = over(inputs.paths.clone(), |bytes| {
         black_box(plain::expiry(1, bytes));
@@ -222,9 +257,11 @@ fn walk_row(inputs: &Inputs) -> Loops {
 type Maker = fn(&Inputs) -> Loops;
 
 /// The calls.
-const CALLS: [(&str, Maker); 7] = [
+const CALLS: [(&str, Maker); 9] = [
     ("packet decode", packet_row),
+    ("packet decode, then expiry", packet_expiry_row),
     ("path decode", path_row),
+    ("path decode, then expiry", path_expiry_row),
     ("expiry", expiry_row),
     ("turn", turn_row),
     ("header writing", write_row),
@@ -239,6 +276,10 @@ const SIZES: [(&str, Lengths, u8); 4] = [
     ("3 segments, 64 hop fields", [22, 21, 21], 0x00),
     ("largest header, 80 hop fields", [63, 17, 0], 0x01),
 ];
+
+/// The hop fields of the two shapes of three segments, which differ in nothing else.
+const FEW: usize = 10;
+const MANY: usize = 64;
 
 /// All rows; moves only where they are not refused.
 fn rows() -> Vec<Row> {
@@ -349,9 +390,12 @@ pub fn run() -> bool {
         "Medians of {BATCHES} batches, processor time; each call reads its input first, the Rust's from byte strings"
     );
     println!(
-        "that are not counted. A path decode of 1 hop field is nearly the meta header alone. The Rust's expiry goes"
+        "that are not counted. The library and plain C store a path's expiry when they read it, so that a row \"then expiry\""
     );
-    println!("through the packaged time library. The Rust has no moves, and they are not written in plain C.\n");
+    println!(
+        "only takes it from the record; the Rust computes it when it is asked, and goes through the packaged time library."
+    );
+    println!("The Rust has no moves, and they are not written in plain C.\n");
     println!("| call | input | Rust, ns | plain C, ns | library, ns | library / Rust | library / plain C |");
     println!("|---|---|---:|---:|---:|---:|---:|");
     let mut all: Vec<(&str, usize, Found)> = Vec::new();
@@ -371,7 +415,7 @@ pub fn run() -> bool {
         all.push((row.call, row.hop_fields, found));
     }
     println!();
-    println!("Cost of one more hop field, from 1 (moves: 10) to 64 hop fields:\n");
+    println!("Cost of one more hop field, from {FEW} to {MANY} hop fields in three segments:\n");
     println!("| call | Rust, ns | plain C, ns | library, ns |");
     println!("|---|---:|---:|---:|");
     for (call, _) in CALLS {
@@ -382,11 +426,11 @@ pub fn run() -> bool {
 
 /// Prints what a hop field costs in a call.
 fn slope(call: &str, all: &[(&str, usize, Found)]) {
-    let of: Vec<_> = all.iter().filter(|row| row.0 == call && row.1 <= 64).collect();
-    let (Some(first), Some(last)) = (of.first(), of.last()) else { return };
+    let with = |hop_fields: usize| all.iter().find(|row| row.0 == call && row.1 == hop_fields).map(|row| row.2);
+    let (Some(few), Some(many)) = (with(FEW), with(MANY)) else { return };
     let each = |of: fn(&Found) -> Option<f64>| {
-        let difference = of(&last.2).zip(of(&first.2)).map(|(last, first)| last - first);
-        cell(difference.map(|difference| difference / (last.1 - first.1) as f64), 2)
+        let difference = of(&many).zip(of(&few)).map(|(many, few)| many - few);
+        cell(difference.map(|difference| difference / (MANY - FEW) as f64), 2)
     };
     println!(
         "| {call} | {} | {} | {} |",
@@ -396,12 +440,12 @@ fn slope(call: &str, all: &[(&str, usize, Found)]) {
     );
 }
 
-/// Prints the rows that can be counted: index, call, input, and which sides have it.
+/// Prints the rows that can be counted: index, call, input, its hop fields, and which sides have it.
 pub fn names() -> bool {
     for (index, row) in rows().iter().enumerate() {
         let sides = [("rust", row.loops.rust.is_some()), ("plain", row.loops.plain.is_some()), ("library", true)];
         let sides: Vec<&str> = sides.into_iter().filter(|side| side.1).map(|side| side.0).collect();
-        println!("{index}|{}|{}|{}", row.call, row.size, sides.join(" "));
+        println!("{index}|{}|{}|{}|{}", row.call, row.size, row.hop_fields, sides.join(" "));
     }
     true
 }

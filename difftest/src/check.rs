@@ -2,7 +2,7 @@
 
 use std::fmt::Debug;
 
-use scion_proto::{Answered, Ends, Headers, HopField, InfoField, calls};
+use scion_proto::{Ends, Headers, HopField, InfoField, Path, calls};
 use scion_rs::path::standard::{HopField as RustHopField, InfoField as RustInfoField};
 
 use crate::lent::Lent;
@@ -10,6 +10,7 @@ use crate::model;
 use crate::oracle::path::{Expected, Oracle};
 use crate::oracle::{self, ACCEPTED};
 use crate::plant::{self, Plant};
+use crate::records::{self, Recorded};
 use crate::tally::{Call, Source, Tally, hex};
 
 /// Compares calls and counts them.
@@ -21,6 +22,8 @@ pub struct Checker {
     stop_at_first: bool,
     source: Lent,
     dst: Lent,
+    /// How many records that calls handed back have been asked for their times.
+    records: usize,
 }
 
 /// A path call's input: its type and its bytes.
@@ -46,8 +49,34 @@ impl Checker {
         self.stop_at_first && self.tally.differed > 0
     }
 
+    /// The two calls on a record that a call has handed back, at a time beside one of the borders, each in its turn.
+    fn record_of(&mut self, answer: &impl Recorded) {
+        let Some(record) = answer.record() else { return };
+        let nows = records::nows(record.expiry);
+        self.records += 1;
+        self.record_expiry(record);
+        self.record_time_left(record, nows[self.records % nows.len()]);
+    }
+
+    /// The expiry of a record.
+    pub fn record_expiry(&mut self, record: Path) {
+        let mut ms = calls::record_expiry(record);
+        plant::value(&self.plant, Call::RecordExpiry, &mut ms);
+        self.tally.count(Call::RecordExpiry, ACCEPTED, Source::Model);
+        self.tally.values(Call::RecordExpiry, &ms, &model::record_expiry(&record), || format!("{record:?}"));
+    }
+
+    /// The time left of a record.
+    pub fn record_time_left(&mut self, record: Path, now: u64) {
+        let mut answer = calls::record_time_left(record, now);
+        plant::answer(&self.plant, Call::RecordTimeLeft, &mut answer);
+        let expected = model::record_time_left(&record, now);
+        let words = || format!("{record:?} now {now}");
+        self.tally.compare(Call::RecordTimeLeft, &answer, (&expected, Source::Model), words);
+    }
+
     /// Compares a call that only reads the lent bytes.
-    fn reading<T: Answered + PartialEq + Debug>(
+    fn reading<T: Recorded + PartialEq + Debug>(
         &mut self,
         call: Call,
         input: Input,
@@ -64,6 +93,7 @@ impl Checker {
             self.tally.bytes(call, self.source.room(), self.source.expected(), words);
             self.source.set(input.bytes);
         }
+        self.record_of(&answer);
     }
 
     /// Reads a path; the other calls on it need the oracle that this hands back.
@@ -167,7 +197,7 @@ impl Checker {
     }
 
     /// Compares a call that changes the lent bytes; `theirs` changes the ones expected.
-    fn changing<T: Answered + PartialEq + Debug>(
+    fn changing<T: Recorded + PartialEq + Debug>(
         &mut self,
         call: Call,
         input: Input,
@@ -184,6 +214,7 @@ impl Checker {
         self.tally.compare(call, &answer, (&expected, source), words);
         self.tally.bytes(call, self.source.room(), self.source.expected(), words);
         self.source.set(input.bytes);
+        self.record_of(&answer);
     }
 
     /// An alert flag of hop field `index` set or cleared.
@@ -229,7 +260,7 @@ impl Checker {
     }
 
     /// Compares a call that has written to the destination and read the source.
-    fn destined<T: Answered + PartialEq + Debug>(
+    fn destined<T: Recorded + PartialEq + Debug>(
         &mut self,
         call: Call,
         input: Input,
@@ -243,6 +274,7 @@ impl Checker {
         self.tally.compare(call, &answer, (&expected, source), words);
         self.tally.bytes(call, self.dst.room(), self.dst.expected(), words);
         self.tally.bytes(call, self.source.room(), self.source.expected(), words);
+        self.record_of(&answer);
     }
 
     /// A packet split.
@@ -266,7 +298,7 @@ impl Checker {
         let (expected, source) =
             oracle::write::new_headers(ends, path_type, bytes, next_header, payload_length, flow_id);
         let mut made = calls::new_headers(ends, path_type, bytes.len(), next_header, payload_length, flow_id);
-        plant_plain(&self.plant, Call::NewHeaders, &mut made);
+        plant::value(&self.plant, Call::NewHeaders, &mut made);
         let words = || describe(path, &(ends, next_header, payload_length, flow_id));
         self.tally.count(Call::NewHeaders, ACCEPTED, source);
         self.tally.values(Call::NewHeaders, &made, &expected, words);
@@ -277,7 +309,7 @@ impl Checker {
     pub fn headers_length(&mut self, headers: &Headers, path: &[u8]) -> usize {
         let (expected, source) = oracle::write::headers_length(headers, path);
         let mut length = calls::headers_length(headers, path.len());
-        plant_plain(&self.plant, Call::HeadersLength, &mut length);
+        plant::value(&self.plant, Call::HeadersLength, &mut length);
         let input = Input { path_type: headers.path_type, bytes: path };
         self.tally.count(Call::HeadersLength, ACCEPTED, source);
         self.tally.values(Call::HeadersLength, &length, &expected, || describe(input, headers));
@@ -321,15 +353,6 @@ fn derived(field: &HopField, info: &InfoField) -> (u16, u16, i64) {
     }
     let ms = i64::from(info.timestamp) * 1000 + 337_500 * (1 + i64::from(field.exp_time));
     (ingress, egress, ms)
-}
-
-/// Plants a fault in a value that has no answer in it.
-fn plant_plain<T>(plant: &Option<Plant>, call: Call, value: &mut T) {
-    if let Some(Plant { call: at, accepted: true, fault: plant::Fault::AnswerByte(byte) }) = plant {
-        if *at == call && *byte < size_of::<T>() {
-            plant::flip(value, *byte);
-        }
-    }
 }
 
 /// How many hop fields stand before segment `index`.

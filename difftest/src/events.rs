@@ -1,7 +1,8 @@
 //! Whole lists of events on the compiled library, held to demand 3's claim.
 //!
 //! The claim is checked from definitions of document 01 alone: accumulators by the path begun with, hop field bytes,
-//! entry and exit interfaces, counts and what the ends hold.
+//! entry and exit interfaces, counts and what the ends hold. Beside it, every record that an accepted call hands back has
+//! the expiry of the path begun with (request 2026-01).
 
 use scion_proto::{Answered, PathAnswer, calls};
 
@@ -41,6 +42,7 @@ struct Begun {
     bytes: Vec<u8>,
     shape: Shape,
     accumulators: Vec<u16>,
+    expiry: u64,
     reply: Vec<u8>,
 }
 
@@ -62,8 +64,9 @@ fn begun(random: &mut Random, lengths: shapes::Lengths) -> Begun {
         bytes[at] = bytes[at] & !2 | if peering { 2 } else { 0 };
     }
     let accumulators = model::accumulators(&bytes, &shape);
+    let expiry = model::expiry(&bytes, &shape);
     let reply = reply(&bytes);
-    Begun { bytes, shape, accumulators, reply }
+    Begun { bytes, shape, accumulators, expiry, reply }
 }
 
 /// The path walked to its last hop field by the model and turned by the Rust.
@@ -169,6 +172,8 @@ fn single_move(checker: &mut Checker, state: &mut State, begun: &Begun, at: usiz
     claim(checker, Call::Move, begun, list, answer.answer.number == expected, "15 just at the last hop field");
     if answer.answer.number == 0 {
         packet.count += 1;
+        let is_kept = answer.path.expiry == begun.expiry;
+        claim(checker, Call::Move, begun, list, is_kept, "a move leaves the expiry as it was");
     } else {
         claim(checker, Call::Move, begun, list, packet.bytes == before, "a refused move changes nothing");
     }
@@ -204,6 +209,8 @@ fn walked(checker: &mut Checker, begun: &Begun, packet: &mut Packet, limit: usiz
         is_told,
         "a walk is accepted and tells whether it stands at the last hop field",
     );
+    let is_kept = walk.path.expiry == begun.expiry;
+    claim(checker, Call::Walk, begun, list, is_kept, "a walk leaves the expiry as it was");
     walk.moves
 }
 
@@ -225,6 +232,8 @@ fn arrive(checker: &mut Checker, state: &mut State, begun: &Begun, at: usize, si
         return;
     }
     claim(checker, Call::ReversePath, begun, list, count + 1 == begun.shape.hop_fields, "an arrival took N - 1 moves");
+    let is_kept = answer.path.expiry == begun.expiry;
+    claim(checker, Call::ReversePath, begun, list, is_kept, "a turn leaves the expiry as it was");
     state.has_arrived |= to == OTHER;
     state.held[to] = Some(dst);
     state.packets.remove(at);
@@ -262,6 +271,8 @@ fn stands(checker: &mut Checker, begun: &Begun, packet: &Packet, list: &[Event])
         return;
     }
     claim(checker, Call::Move, begun, list, packet.count == pointer, "the count is the hop pointer");
+    let is_kept = read.path.expiry == begun.expiry;
+    claim(checker, Call::Move, begun, list, is_kept, "a packet is read with the expiry begun with");
     let is_out = packet.to == OTHER;
     let at = if is_out { pointer } else { begun.shape.hop_fields - 1 - pointer };
     let met = &packet.bytes[shape.hop_at(pointer)..][..12];

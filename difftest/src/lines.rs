@@ -6,6 +6,7 @@
 mod fields;
 mod packets;
 mod paths;
+mod records;
 mod runs;
 
 use crate::tally::{Exception, Source, Tally};
@@ -86,8 +87,11 @@ pub fn parse_bytes(word: &str) -> Vec<u8> {
 /// The answer to a call, as text, and whose it is; none where it is no call or one that the Rust can't be asked.
 pub fn answer(text: &str) -> Option<(String, Source)> {
     let mut line = Line::new(text);
-    let is_known =
-        paths::answer(&mut line) || fields::answer(&mut line) || packets::answer(&mut line) || runs::answer(&mut line);
+    let is_known = paths::answer(&mut line)
+        || fields::answer(&mut line)
+        || packets::answer(&mut line)
+        || runs::answer(&mut line)
+        || records::answer(&mut line);
     is_known.then_some((line.answer, line.source))
 }
 

@@ -542,6 +542,100 @@ fn runs(random: &mut Random) -> Subject {
     subject
 }
 
+/// Samples with other times and expiry bytes, so that any hop field may be the first to expire.
+fn timed_samples(random: &mut Random) -> Vec<Vec<u8>> {
+    let mut all = samples(random);
+    for bytes in &mut all {
+        let word = u32::from_be_bytes([bytes[0], bytes[1], bytes[2], bytes[3]]) as usize;
+        let shape = shapes::shape([word >> 12 & 63, word >> 6 & 63, word & 63]);
+        for k in 0..shape.info_fields {
+            let time = random.pick(&[10u32, 300, 700, 1000]);
+            bytes[shape.info_at(k) + 4..][..4].copy_from_slice(&time.to_be_bytes());
+        }
+        for h in 0..shape.hop_fields {
+            bytes[shape.hop_at(h) + 1] = random.below(10) as u8;
+        }
+    }
+    all
+}
+
+/// Records with their expiry: as calls hand them back, and made by hand.
+fn records(random: &mut Random) -> Subject {
+    let mut subject = Subject::new("records");
+    subject.note(
+        "The record that reading hands back; zero, and without an expiry, where it refuses or the type is another.",
+    );
+    for bytes in timed_samples(random) {
+        let text = word(&bytes);
+        subject.call(format!("recordread 1 {text}"));
+        subject.call(format!("recordread 1 {}", word(&bytes[..bytes.len() - 1])));
+        subject.call(format!("recordread {} {text}", random.pick(&[0, 2, 255])));
+        let count = sample_hop_fields(&bytes);
+        for index in (0..=count).chain([9_000_000_000_000, 9_000_000_000_001, usize::MAX]) {
+            subject.call(format!("recordviews 1 {text} {index}"));
+        }
+    }
+    for time in ["00000000", "00000001", "fffffffe", "ffffffff"] {
+        for byte in ["00", "01", "fe", "ff"] {
+            subject.call(format!("recordread 1 0000100000000000{time}00{byte}+10"));
+        }
+    }
+    left_records(random, &mut subject);
+    made_records(&mut subject);
+    subject
+}
+
+/// The records of what calls leave, and of packets.
+fn left_records(random: &mut Random, subject: &mut Subject) {
+    subject.note("Alert flags, moves, walks, copies and turns leave the expiry as it was; a refusal has none.");
+    for bytes in timed_samples(random) {
+        let (count, text) = (sample_hop_fields(&bytes), word(&bytes));
+        for index in [random.below(count), count] {
+            subject.call(format!("recordalert 1 {text} {index} {} {}", random.below(2), random.below(2)));
+        }
+        subject.call(format!("recordmove 1 {text}"));
+        for limit in [0, 1, usize::MAX] {
+            subject.call(format!("recordwalk 1 {text} {limit}"));
+        }
+        for size in [bytes.len(), bytes.len() + 1] {
+            let dst = word(&vec![0xee; size]);
+            subject.call(format!("recordcopy 1 {text} {dst}"));
+            subject.call(format!("recordturn 1 {text} {dst}"));
+        }
+    }
+    for (path_type, bytes) in [(0, "-"), (2, "00001000+20"), (1, "00002001+44"), (1, "000020")] {
+        subject.call(format!("recordread {path_type} {bytes}"));
+        subject.call(format!("recordviews {path_type} {bytes} 0"));
+        subject.call(format!("recordalert {path_type} {bytes} 0 1 1"));
+        subject.call(format!("recordmove {path_type} {bytes}"));
+        subject.call(format!("recordwalk {path_type} {bytes} 1"));
+        subject.call(format!("recordcopy {path_type} {bytes} eeee+22"));
+        subject.call(format!("recordturn {path_type} {bytes} eeee+22"));
+    }
+    subject.note("The record of a packet's path.");
+    for path_type in [0, 1, 1, 1, 2] {
+        let path = if path_type == 0 { Vec::new() } else { sample([1, 1, 0], 1, random.below(2), 0) };
+        let bytes = shapes::packet_of(random, &PacketParts { kinds: 0, path_type, path, payload: 1 });
+        subject.call(format!("recordpacket {}", word(&bytes)));
+        subject.call(format!("recordpacket {}", word(&bytes[..bytes.len() - 1])));
+    }
+}
+
+/// Records made by hand, by the request's text: the Rust has none.
+fn made_records(subject: &mut Subject) {
+    subject.note(
+        "Records made by hand, by request 2026-01's text: any number is told, and 10 for a time left beyond a bound.",
+    );
+    let bounds = [4_295_053_695_000, 9_000_000_000_000, 1 << 63];
+    let expiries: Vec<u64> = bounds.iter().flat_map(|bound| [bound - 1, *bound, bound + 1]).collect();
+    for expiry in expiries.into_iter().chain([0, 1, 337_500, 338_500, u64::MAX]) {
+        subject.call(format!("recordexp {expiry}"));
+        for now in [0, 1, 338_501, 9_000_000_000_000, 9_000_000_000_001, u64::MAX] {
+            subject.call(format!("recordleft {expiry} {now}"));
+        }
+    }
+}
+
 /// An order of reads by the bits of a number, which is gone through again where it is too short.
 fn order(count: usize, bits: usize) -> String {
     (0..count).map(|k| if bits >> (k % 64) & 1 == 0 { 'f' } else { 'b' }).collect()
@@ -644,6 +738,7 @@ fn subjects() -> Vec<Subject> {
         headers(&mut random),
         writing(&mut random),
         runs(&mut random),
+        records(&mut random),
     ]
 }
 

@@ -13,6 +13,7 @@ mod paths;
 mod plain;
 mod plant;
 mod random;
+mod records;
 mod results;
 mod samples;
 mod selftest;
@@ -28,7 +29,7 @@ use random::Random;
 
 /// How much is run.
 struct Size {
-    /// About how many random calls.
+    /// About how many random calls; those on the records that they hand back come on top.
     calls: u64,
     /// Which meta words are read: `all`, `each` pointer and length, or a `few` of these.
     words: String,
@@ -60,12 +61,12 @@ fn part(checker: &mut Checker, name: &str, run: impl FnOnce(&mut Checker)) {
     );
 }
 
-/// A random part, until about so many calls have been compared.
+/// A random part, until about so many calls on bytes or headers have been compared.
 fn random_part(checker: &mut Checker, name: &str, calls: u64, mut one: impl FnMut(&mut Checker)) {
     part(checker, name, |checker| {
-        let start = checker.tally.compared();
+        let (start, first) = (checker.tally.compared(), checker.tally.compared_of_bytes());
         let mut shown = start;
-        while checker.tally.compared() - start < calls {
+        while checker.tally.compared_of_bytes() - first < calls {
             one(checker);
             let now = checker.tally.compared();
             if now - shown > 20_000_000 {
@@ -78,6 +79,7 @@ fn random_part(checker: &mut Checker, name: &str, calls: u64, mut one: impl FnMu
 
 /// What is run whole: every border, kind, type, factor and set of faults.
 fn run_borders(checker: &mut Checker, random: &mut Random) {
+    part(checker, "records made by hand", records::borders);
     part(checker, "no bytes", paths::no_bytes);
     part(checker, "short buffers", |checker| paths::short_buffers(checker, random));
     part(checker, "paths of every shape", |checker| paths::every_shape(checker, random, 3));
@@ -109,6 +111,9 @@ fn run(checker: &mut Checker, size: &Size) -> bool {
     let is_as_worked = samples::run(checker);
     run_borders(checker, &mut random);
     run_words(checker, &mut random, &size.words);
+    part(checker, "random records", |checker| {
+        (0..size.calls / 30).for_each(|_| records::random_record(checker, &mut random));
+    });
     random_part(checker, "event lists", size.calls / 10, |checker| events::random_list(checker, &mut random));
     random_part(checker, "random headers", size.calls / 10, |checker| writing::random_headers(checker, &mut random));
     random_part(checker, "random packets", size.calls / 5, |checker| packets::random_packet(checker, &mut random));

@@ -1,14 +1,15 @@
 //! Document 01's rules for what the Rust lacks or leaves open, written from its text alone: moves, walks,
-//! accumulators by a path alone, and the writing of headers that the Rust can't build.
+//! accumulators by a path alone, when a path expires that a move left, the times of a record (request 2026-01), and
+//! the writing of headers that the Rust can't build.
 
 use std::cell::Cell;
 
-use scion_proto::{Answer, Ends, Headers, Host, Path, PathAnswer, Walk};
+use scion_proto::{Answer, Ends, Headers, Host, Path, PathAnswer, TimeLeft, Walk};
 
-use crate::oracle::path::Oracle;
+use crate::oracle::path::{LATEST_NOW, Oracle};
 use crate::oracle::{ACCEPTED, Refused, refusal};
 
-/// A plausible wrong rule of moving, put in the right one's place to see that the run's inputs tell them apart.
+/// A plausible wrong rule of moving or of times, put in the right one's place to see that the run's inputs tell them apart.
 #[derive(Debug, Clone, Copy, PartialEq)]
 pub enum Twist {
     None,
@@ -25,10 +26,24 @@ pub enum Twist {
     SixtyFiveAreNotTooMany,
     PeeringOnOneIsFine,
     PeeringOnBothIsNotFine,
+    ExpiryOfTheFirstHopFieldOnly,
+    ExpiryOfTheFirstSegmentOnly,
+    ExpiryOfTheLastSegmentOnly,
+    ExpiryByTheFirstTimestamp,
+    ExpiryOfTheCurrentSegment,
+    ExpiryOfTheHopFieldsAhead,
+    ExpiryIsTheGreatest,
+    LargestExpiryIsTooWide,
+    OneMoreThanTheLargestExpiryIsNot,
+    AnyExpiryIsTaken,
+    LatestNowIsTooLate,
+    AnyNowIsTaken,
+    NoExpiryIsRefused,
+    NothingIsLeftOnceItHasExpired,
 }
 
 /// All the wrong rules.
-pub const TWISTS: [Twist; 13] = [
+pub const TWISTS: [Twist; 27] = [
     Twist::OwnerIsAlwaysTheFirst,
     Twist::OwnerIsAlwaysTheNext,
     Twist::PeeringSparesEveryOwner,
@@ -42,6 +57,20 @@ pub const TWISTS: [Twist; 13] = [
     Twist::SixtyFiveAreNotTooMany,
     Twist::PeeringOnOneIsFine,
     Twist::PeeringOnBothIsNotFine,
+    Twist::ExpiryOfTheFirstHopFieldOnly,
+    Twist::ExpiryOfTheFirstSegmentOnly,
+    Twist::ExpiryOfTheLastSegmentOnly,
+    Twist::ExpiryByTheFirstTimestamp,
+    Twist::ExpiryOfTheCurrentSegment,
+    Twist::ExpiryOfTheHopFieldsAhead,
+    Twist::ExpiryIsTheGreatest,
+    Twist::LargestExpiryIsTooWide,
+    Twist::OneMoreThanTheLargestExpiryIsNot,
+    Twist::AnyExpiryIsTaken,
+    Twist::LatestNowIsTooLate,
+    Twist::AnyNowIsTaken,
+    Twist::NoExpiryIsRefused,
+    Twist::NothingIsLeftOnceItHasExpired,
 ];
 
 thread_local! {
@@ -58,6 +87,9 @@ pub fn twist(twist: Twist) {
 fn has(twist: Twist) -> bool {
     TWIST.get() == twist
 }
+
+/// The largest expiry of document 01: the latest timestamp, and the largest expiry byte.
+pub const LARGEST_EXPIRY: u64 = 4_295_053_695_000;
 
 /// The lengths and pointers of an accepted path.
 #[derive(Clone, Copy)]
@@ -191,9 +223,14 @@ fn movable(oracle: &Oracle, bytes: &[u8]) -> Result<Shape, Answer> {
     }
 }
 
-/// The record with the pointers of a shape.
-fn record_at(oracle: &Oracle, shape: &Shape) -> Path {
-    Path { current_info_field: shape.info_pointer as u8, current_hop_field: shape.hop_pointer as u8, ..oracle.record() }
+/// The record of the bytes that moves have left, with the pointers of a shape.
+fn record_at(oracle: &Oracle, bytes: &[u8], shape: &Shape) -> Path {
+    Path {
+        current_info_field: shape.info_pointer as u8,
+        current_hop_field: shape.hop_pointer as u8,
+        expiry: expiry(bytes, shape),
+        ..oracle.record()
+    }
 }
 
 /// A single move; `bytes` are the ones that `oracle` read, in a copy that may change.
@@ -206,7 +243,7 @@ pub fn single_move(oracle: &Oracle, bytes: &mut [u8]) -> PathAnswer {
         return PathAnswer::refused(refusal(15));
     }
     step(bytes, &mut shape);
-    PathAnswer { answer: ACCEPTED, path: record_at(oracle, &shape) }
+    PathAnswer { answer: ACCEPTED, path: record_at(oracle, bytes, &shape) }
 }
 
 /// A walk: moves until the last hop field or the limit.
@@ -227,7 +264,7 @@ pub fn walk(oracle: &Oracle, bytes: &mut [u8], limit: usize) -> Walk {
         }
     }
     let arrived = u8::from(shape.hop_pointer + 1 == shape.hop_fields);
-    Walk { answer: ACCEPTED, path: record_at(oracle, &shape), moves, arrived }
+    Walk { answer: ACCEPTED, path: record_at(oracle, bytes, &shape), moves, arrived }
 }
 
 /// Each hop field's accumulator by a path alone, without a move in it.
@@ -250,6 +287,58 @@ pub fn entry_and_exit(bytes: &[u8], shape: &Shape, h: usize) -> (u16, u16) {
     let ingress = u16::from_be_bytes([bytes[at + 2], bytes[at + 3]]);
     let egress = u16::from_be_bytes([bytes[at + 4], bytes[at + 5]]);
     if is_along(bytes, shape, shape.segment_of(h)) { (ingress, egress) } else { (egress, ingress) }
+}
+
+/// When hop field `h` of segment `k` expires: time × 1,000 + 337,500 × (1 + e), in ms.
+fn hop_expiry(bytes: &[u8], shape: &Shape, k: usize, h: usize) -> u64 {
+    let k = if has(Twist::ExpiryByTheFirstTimestamp) { 0 } else { k };
+    let at = shape.info_at(k) + 4;
+    let time = u32::from_be_bytes([bytes[at], bytes[at + 1], bytes[at + 2], bytes[at + 3]]);
+    let e = bytes[shape.hop_at(h) + 1];
+    u64::from(time) * 1_000 + 337_500 * (1 + u64::from(e))
+}
+
+/// When a path expires: the least over its hop fields.
+pub fn expiry(bytes: &[u8], shape: &Shape) -> u64 {
+    let last = shape.info_fields - 1;
+    let counts = |h: usize, k: usize| match TWIST.get() {
+        Twist::ExpiryOfTheFirstHopFieldOnly => h == 0,
+        Twist::ExpiryOfTheFirstSegmentOnly => k == 0,
+        Twist::ExpiryOfTheLastSegmentOnly => k == last,
+        Twist::ExpiryOfTheCurrentSegment => k == shape.info_pointer,
+        Twist::ExpiryOfTheHopFieldsAhead => h >= shape.hop_pointer,
+        _ => true,
+    };
+    let fields = (0..shape.hop_fields).map(|h| (h, shape.segment_of(h))).filter(|(h, k)| counts(*h, *k));
+    let all = fields.map(|(h, k)| hop_expiry(bytes, shape, k, h));
+    let found = if has(Twist::ExpiryIsTheGreatest) { all.max() } else { all.min() };
+    found.expect("at least 1 hop field")
+}
+
+/// The expiry of a record: the number stored in it.
+pub fn record_expiry(record: &Path) -> u64 {
+    record.expiry
+}
+
+/// The time left of a record: the number stored in it less now, and 10 where either is above its bound.
+pub fn record_time_left(record: &Path, now: u64) -> TimeLeft {
+    let most = match TWIST.get() {
+        Twist::LargestExpiryIsTooWide => LARGEST_EXPIRY - 1,
+        Twist::OneMoreThanTheLargestExpiryIsNot => LARGEST_EXPIRY + 1,
+        Twist::AnyExpiryIsTaken => u64::MAX,
+        _ => LARGEST_EXPIRY,
+    };
+    let latest = match TWIST.get() {
+        Twist::LatestNowIsTooLate => LATEST_NOW - 1,
+        Twist::AnyNowIsTaken => u64::MAX,
+        _ => LATEST_NOW,
+    };
+    if record.expiry > most || now > latest || (record.expiry == 0 && has(Twist::NoExpiryIsRefused)) {
+        return TimeLeft::refused(refusal(10));
+    }
+    let left = (i128::from(record.expiry) - i128::from(now)) as i64;
+    let ms = if has(Twist::NothingIsLeftOnceItHasExpired) { left.max(0) } else { left };
+    TimeLeft { answer: ACCEPTED, path: *record, ms }
 }
 
 /// A host's length.

@@ -6,6 +6,7 @@ pub mod path;
 pub mod write;
 
 use std::cell::Cell;
+use std::ops::Deref;
 use std::panic::{AssertUnwindSafe, catch_unwind, set_hook, take_hook};
 
 use bytes::Bytes;
@@ -14,8 +15,8 @@ use scion_proto::{
     TimeLeft, Walk,
 };
 use scion_rs::packet::DecodeError;
-use scion_rs::path::DataplanePathErrorKind;
 use scion_rs::path::standard::PathMetaHeader;
+use scion_rs::path::{DataplanePath, DataplanePathErrorKind, StandardPath};
 
 /// Accepted.
 pub const ACCEPTED: Answer = Answer { number: 0, value: 0 };
@@ -58,13 +59,27 @@ refused! {
     PathAnswer PathRead InfoField HopField Segment Expiry TimeLeft InterfaceCount Interface Walk Packet
 }
 
-/// The record of the Rust's meta header.
-pub fn record(meta: &PathMetaHeader) -> Path {
+/// When the Rust's path expires by its own account, in ms since 1970.
+pub(crate) fn expiry_of<T: Deref<Target = [u8]>>(path: &StandardPath<T>) -> u64 {
+    u64::try_from(path.expiry_time().timestamp_millis()).expect("after 1970")
+}
+
+/// The record of the Rust's meta header, with an expiry.
+pub fn record_with(meta: &PathMetaHeader, expiry: u64) -> Path {
     Path {
         current_info_field: meta.current_info_field.get(),
         current_hop_field: meta.current_hop_field.get(),
         reserved: meta.reserved.get(),
         segment_lengths: meta.segment_lengths.map(|length| length.get()),
+        expiry,
+    }
+}
+
+/// The record of the Rust's path: its meta header, and the expiry that it gives itself; zero where it is not a standard one.
+pub fn record<T: Deref<Target = [u8]>>(path: &DataplanePath<T>) -> Path {
+    match path {
+        DataplanePath::Standard(path) => record_with(path.meta_header(), expiry_of(path)),
+        _ => Path::default(),
     }
 }
 

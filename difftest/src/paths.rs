@@ -6,6 +6,7 @@ use crate::check::{Checker, Input};
 use crate::model::Shape;
 use crate::oracle::path::{LATEST_NOW, Oracle};
 use crate::random::Random;
+use crate::records;
 use crate::shapes::{self, Lengths, Pointers};
 use crate::tally::{Call, Source};
 
@@ -15,13 +16,18 @@ pub const FAR: [usize; 6] = [1 << 32, (1 << 63) - 1, 1 << 63, (1 << 63) + 1, usi
 /// More bytes than any path takes.
 const ROOM: usize = 2400;
 
+/// How many meta words go by until the Rust is asked again for an expiry that it has given already.
+const ASKED_AGAIN: u64 = 251;
+
 /// Reading alone, over meta words in a buffer that is long enough for all.
 pub fn words(checker: &mut Checker, random: &mut Random, words: impl Iterator<Item = u32>, progress: u64) {
     let mut bytes = random.bytes(ROOM);
+    let mut expiries = Expiries::default();
     let mut done = 0u64;
     for word in words {
         bytes[..4].copy_from_slice(&word.to_be_bytes());
-        compare_reading(checker, &bytes);
+        let oracle = expiries.known_to(word, Oracle::new(1, &bytes), done % ASKED_AGAIN == 0);
+        compare_reading(checker, &bytes, &oracle);
         done += 1;
         if progress > 0 && done % progress == 0 {
             println!("    {done} meta words, {} differed", checker.tally.differed);
@@ -29,11 +35,36 @@ pub fn words(checker: &mut Checker, random: &mut Random, words: impl Iterator<It
     }
 }
 
+/// What the Rust gave as the expiry of paths of these lengths, 0 where it was not asked yet. Their fields are the same
+/// bytes under every meta word, so that it need not be asked for each of them: the long run would take an hour more.
+struct Expiries(Vec<u64>);
+
+impl Default for Expiries {
+    fn default() -> Self {
+        Self(vec![0; 1 << 18])
+    }
+}
+
+impl Expiries {
+    /// A path's oracle, with the expiry where that is known; the Rust is asked where it is not, or where that is wanted.
+    #[inline]
+    fn known_to<'a>(&mut self, word: u32, oracle: Oracle<'a>, is_asked_again: bool) -> Oracle<'a> {
+        let known = &mut self.0[word as usize & 0x3_ffff];
+        if *known > 0 && !is_asked_again {
+            return oracle.with_expiry(*known);
+        }
+        let expiry = oracle.record().expiry;
+        assert!(expiry == 0 || *known == 0 || *known == expiry, "the Rust gives another expiry to the same fields");
+        *known = expiry.max(*known);
+        oracle
+    }
+}
+
 /// Reading alone, of a standard path.
 #[inline]
-fn compare_reading(checker: &mut Checker, bytes: &[u8]) {
+fn compare_reading(checker: &mut Checker, bytes: &[u8], oracle: &Oracle) {
     let mut ours = calls::read_path(1, bytes);
-    let expected = Oracle::new(1, bytes).read_path();
+    let expected = oracle.read_path();
     crate::plant::answer(&checker.plant, Call::ReadPath, &mut ours);
     let words = || format!("type 1 bytes {}", crate::tally::hex(bytes));
     checker.tally.compare(Call::ReadPath, &ours, (&expected, Source::Rust), words);
@@ -57,7 +88,7 @@ pub fn exact_lengths(checker: &mut Checker, random: &mut Random, step: usize) {
         bytes[..4].copy_from_slice(&shapes::meta(0, 0, 0, lengths));
         let length = shapes::shape(lengths).bytes();
         for length in length - 1..=length + 1 {
-            compare_reading(checker, &bytes[..length]);
+            compare_reading(checker, &bytes[..length], &Oracle::new(1, &bytes[..length]));
         }
     }
 }
@@ -259,8 +290,7 @@ fn every_alert(
 /// Expiry, and the time left at the borders of now.
 fn every_time(checker: &mut Checker, random: &mut Random, input: Input, oracle: &Oracle, thorough: bool) {
     checker.expiry(input, oracle);
-    let expiry = oracle.expiry().ms;
-    let nows = [0, LATEST_NOW, LATEST_NOW + 1, 1 << 63, u64::MAX, expiry, expiry.wrapping_sub(1), expiry + 1];
+    let nows = records::nows(oracle.expiry().ms);
     if thorough {
         for now in nows {
             checker.time_left(input, oracle, now);

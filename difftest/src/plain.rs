@@ -2,7 +2,7 @@
 
 use std::fmt::Debug;
 
-use scion_proto::{Answer, Answered, Ends, Expiry, Host, Packet, PathAnswer, PathRead, calls};
+use scion_proto::{Answer, Answered, Ends, Expiry, Host, Packet, Path, PathAnswer, PathRead, calls};
 
 use crate::bench;
 use crate::plant::{self, Plant};
@@ -14,6 +14,7 @@ unsafe extern "C" {
     fn plain_read_packet(bytes: *const u8, len: usize) -> Packet;
     fn plain_read_path(path_type: u8, bytes: *const u8, len: usize) -> PathRead;
     fn plain_expiry(path_type: u8, bytes: *const u8, len: usize) -> Expiry;
+    fn plain_record_expiry(path: Path) -> u64;
     fn plain_reverse_path(path_type: u8, bytes: *const u8, len: usize, dst: *mut u8, dst_len: usize) -> PathAnswer;
     fn plain_write_new_headers(
         destination_ia: u64,
@@ -44,6 +45,11 @@ pub fn read_path(path_type: u8, bytes: &[u8]) -> PathRead {
 /// `plain_expiry`.
 pub fn expiry(path_type: u8, bytes: &[u8]) -> Expiry {
     unsafe { plain_expiry(path_type, bytes.as_ptr(), bytes.len()) }
+}
+
+/// `plain_record_expiry`.
+pub fn record_expiry(path: Path) -> u64 {
+    unsafe { plain_record_expiry(path) }
 }
 
 /// `plain_reverse_path`.
@@ -80,7 +86,8 @@ pub fn write_new_headers(
 }
 
 /// The calls that there are in plain C.
-pub const CALLS: [Call; 5] = [Call::ReadPacket, Call::ReadPath, Call::Expiry, Call::ReversePath, Call::WriteNewHeaders];
+pub const CALLS: [Call; 6] =
+    [Call::ReadPacket, Call::ReadPath, Call::Expiry, Call::RecordExpiry, Call::ReversePath, Call::WriteNewHeaders];
 
 /// How many inputs of each sort are random.
 const RANDOM: usize = 2_000;
@@ -124,18 +131,31 @@ impl Held {
         self.hold(call, (plain, plain_dst), (ours, dst), input);
     }
 
-    /// A packet.
+    /// A packet, and the expiry of its record.
     fn packet(&mut self, bytes: &[u8]) {
         let none = Vec::new;
-        self.hold(Call::ReadPacket, (read_packet(bytes), none()), (calls::read_packet(bytes), none()), bytes);
+        let ours = calls::read_packet(bytes);
+        self.hold(Call::ReadPacket, (read_packet(bytes), none()), (ours, none()), bytes);
+        self.record(ours.path);
     }
 
-    /// A path read, its expiry, and it turned into destinations of its length and beside it.
+    /// The expiry of a record.
+    fn record(&mut self, record: Path) {
+        let (mut plain, ours) = (record_expiry(record), calls::record_expiry(record));
+        plant::value(&self.plant, Call::RecordExpiry, &mut plain);
+        self.compared += 1;
+        if plain != ours && self.differed.is_none() {
+            self.differed = Some(format!("RecordExpiry of {record:?}: plain C {plain}, library {ours}"));
+        }
+    }
+
+    /// A path read, its expiry by its bytes and by its record, and it turned into destinations of its length and beside it.
     fn path(&mut self, path_type: u8, bytes: &[u8]) {
         let none = Vec::new;
         let (plain, ours) = (read_path(path_type, bytes), calls::read_path(path_type, bytes));
         let length = ours.length;
         self.hold(Call::ReadPath, (plain, none()), (ours, none()), bytes);
+        self.record(ours.path);
         let (plain, ours) = (expiry(path_type, bytes), calls::expiry(path_type, bytes));
         self.hold(Call::Expiry, (plain, none()), (ours, none()), bytes);
         for size in [length, length + 1, length.saturating_sub(1), bytes.len()] {

@@ -42,6 +42,16 @@ pub fn answer<T: Answered>(plant: &Option<Plant>, call: Call, value: &mut T) {
     }
 }
 
+/// Makes a value wrong that has no answer in it, where a plant says so.
+#[inline]
+pub fn value<T>(plant: &Option<Plant>, call: Call, value: &mut T) {
+    if let Some(Plant { call: at, accepted: true, fault: Fault::AnswerByte(byte) }) = plant {
+        if *at == call && *byte < size_of::<T>() {
+            flip(value, *byte);
+        }
+    }
+}
+
 /// Makes lent bytes wrong where a plant says so.
 #[inline]
 pub fn lent(plant: &Option<Plant>, call: Call, answer: Answer, room: &mut [u8]) {

@@ -1,6 +1,6 @@
 //! The wrapper's results held against the whole answers that they are made of.
 
-use scion_proto::{Answered, Refusal, calls};
+use scion_proto::{Answered, MAX_EXPIRY, MAX_NOW, Path, Refusal, calls};
 
 use crate::check::{Checker, Input};
 use crate::tally::{Call, hex};
@@ -23,7 +23,7 @@ fn same<T: Answered, V: PartialEq + std::fmt::Debug>(
     checker.tally.values(call, &result, &expected, words);
 }
 
-/// Every call on a path, as a result and whole.
+/// Every call on a path and on its record, as a result and whole.
 pub fn agree(checker: &mut Checker, input: Input, index: usize) {
     let Input { path_type: kind, bytes } = input;
     let mut one = bytes.to_vec();
@@ -89,4 +89,13 @@ pub fn agree(checker: &mut Checker, input: Input, index: usize) {
     same(c, Call::ReversePath, input, scion_proto::reverse_path(kind, bytes, &mut two), whole, |w| w.path);
     c.tally.bytes(Call::Walk, &two, &one, || format!("results, type {kind} bytes {}", hex(bytes)));
     same(c, Call::ReadPacket, input, scion_proto::read_packet(bytes), calls::read_packet(bytes), |w| w);
+    let record = calls::read_path(kind, bytes).path;
+    for record in [record, Path { expiry: MAX_EXPIRY, ..record }, Path { expiry: MAX_EXPIRY + 1, ..record }] {
+        let words = || format!("result, {record:?}");
+        c.tally.values(Call::RecordExpiry, &record.expiry_time(), &calls::record_expiry(record), words);
+        for now in [7, MAX_NOW, MAX_NOW + 1] {
+            let whole = calls::record_time_left(record, now);
+            same(c, Call::RecordTimeLeft, input, record.time_left(now), whole, |w| w.ms);
+        }
+    }
 }

@@ -1,10 +1,13 @@
-//! Answers worked out by hand for packets and header writing, held against the Rust and the library.
-//! Those for paths are the stored answers of the program that executes calls, which `replay` holds against the Rust.
+//! Answers worked out by hand for packets, header writing and the times of records (request 2026-01), held against the
+//! Rust, or the model where the Rust lacks the call, and the library. Those for paths are the stored answers of the program
+//! that executes calls, which `replay` holds against the Rust.
 
-use scion_proto::{Answer, Ends, Headers, Host, Packet, Part};
+use scion_proto::{Answer, Ends, Headers, Host, Packet, Part, Path};
 
 use crate::check::{Checker, Input};
 use crate::lines::parse_bytes;
+use crate::model;
+use crate::oracle::path::Oracle;
 use crate::oracle::{packet, write};
 use crate::random::Random;
 use crate::shapes;
@@ -13,8 +16,18 @@ use crate::shapes;
 const K36: &str = "0000000111090000000000000001ff00000001100002ff0000000220d0d1d2d350515253";
 /// A standard path of two hop fields.
 const M1: &str = "000020000100111100000001000000000005a00bc1c2c3c40000000700000cd0e1e2e3e4";
+/// A path of two segments with times 1000 and 10 and expiry bytes 5, 3, 9 and 2.
+const F22: &str = concat!(
+    "00002080",
+    "01001111000003e8000022220000000a",
+    "000500010002a00b10203040000300030004a10c11213141",
+    "000900050006a20d12223242000200070008a30e13233343"
+);
+/// One hop field with the least time and expiry byte, and one with the largest.
+const LEAST: &str = "00001000+20";
+const LARGEST: &str = "0000100000000000ffffffff00ff+10";
 
-/// Rows that were held, and those that the Rust does not give.
+/// Rows that were held, and those that the Rust, or the model, does not give.
 #[derive(Default)]
 struct Rows {
     held: usize,
@@ -27,7 +40,7 @@ impl Rows {
         self.held += 1;
         if found != worked {
             self.missed += 1;
-            println!("ROW {row}: by the Rust {found:?}, worked out {worked:?}");
+            println!("ROW {row}: by the Rust or the model {found:?}, worked out {worked:?}");
         }
     }
 }
@@ -244,13 +257,69 @@ fn refusals(checker: &mut Checker, rows: &mut Rows) {
     rows.hold("W-09", written(checker, &made, &[], 37).0, 9);
 }
 
-/// Holds every row; whether the Rust gives them all.
+/// Rows on the expiry in records: of a path that was read, and of what calls leave of it.
+fn expiries(checker: &mut Checker, rows: &mut Rows) {
+    let table = [("01-1", LEAST, 337_500), ("01-1", LARGEST, 4_295_053_695_000), ("01-2", F22, 1_022_500)];
+    for (row, path, expiry) in table.into_iter().chain([("01-5", M1, 338_500)]) {
+        let bytes = parse_bytes(path);
+        let input = Input { path_type: 1, bytes: &bytes };
+        let oracle = checker.read_path(input);
+        rows.hold(row, oracle.record().expiry, expiry);
+        left(checker, rows, (row, input), &oracle, expiry);
+        let oracle = checker.read_path(Input { path_type: 2, bytes: &bytes });
+        rows.hold("01-9", oracle.read_path().path, Path::default());
+    }
+    rows.hold("01-1", read(checker, &with_path(1, M1, 18, 0, 72)).path.expiry, 338_500);
+    rows.hold("01-9", read(checker, &k36(&[], 36)).path, Path::default());
+    rows.hold("01-9", read(checker, &with_path(2, M1, 18, 0, 72)).path, Path::default());
+}
+
+/// Rows on the records that an alert flag, a copy, a turn, a walk and, where there is a next hop field, a move hand back.
+fn left(checker: &mut Checker, rows: &mut Rows, (row, input): (&str, Input), oracle: &Oracle, expiry: u64) {
+    let size = input.bytes.len();
+    let mut room = input.bytes.to_vec();
+    checker.set_alert(input, oracle, 0, true, true);
+    rows.hold(row, oracle.set_alert(0, true, true, &mut room).path.expiry, expiry);
+    checker.copy_path(input, oracle, size);
+    rows.hold(row, oracle.copy_path(&mut room).0.path.expiry, expiry);
+    checker.reverse_path(input, oracle, size);
+    rows.hold(row, oracle.reverse_path(&mut room).0.path.expiry, expiry);
+    checker.walk(input, oracle, usize::MAX);
+    rows.hold(row, model::walk(oracle, &mut input.bytes.to_vec(), usize::MAX).path.expiry, expiry);
+    checker.single_move(input, oracle);
+    let moved = model::single_move(oracle, &mut input.bytes.to_vec());
+    rows.hold(row, moved.path.expiry, if moved.answer.number == 0 { expiry } else { 0 });
+}
+
+/// Rows on the times of a record made by hand: expiry, now, number, time left.
+fn times(checker: &mut Checker, rows: &mut Rows) {
+    for (expiry, now, number, ms) in [
+        (4_295_053_695_000, 0, 0, 4_295_053_695_000),
+        (4_295_053_695_001, 0, 10, 0),
+        (u64::MAX, 0, 10, 0),
+        (338_500, 9_000_000_000_001, 10, 0),
+        (0, 9_000_000_000_000, 0, -9_000_000_000_000),
+        (338_500, 338_501, 0, -1),
+    ] {
+        let record = Path { current_hop_field: 1, segment_lengths: [2, 0, 0], expiry, ..Path::default() };
+        checker.record_expiry(record);
+        rows.hold("01-8", model::record_expiry(&record), expiry);
+        checker.record_time_left(record, now);
+        let left = model::record_time_left(&record, now);
+        let given = if number == 0 { record } else { Path::default() };
+        rows.hold("01-7", (left.answer.number, left.path, left.ms), (number, given, ms));
+    }
+}
+
+/// Holds every row; whether the Rust, or the model, gives them all.
 pub fn run(checker: &mut Checker) -> bool {
     let mut rows = Rows::default();
     numbers(checker, &mut rows);
     values(checker, &mut rows);
     bytes_written(checker, &mut rows);
     refusals(checker, &mut rows);
-    println!("  worked answers: {} held, {} that the Rust does not give", rows.held, rows.missed);
+    expiries(checker, &mut rows);
+    times(checker, &mut rows);
+    println!("  worked answers: {} held, {} that the Rust or the model does not give", rows.held, rows.missed);
     rows.missed == 0
 }

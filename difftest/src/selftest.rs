@@ -1,5 +1,7 @@
 //! The harness made to fail: every byte of every answer, lent bytes and their guards are made wrong in turn, and
-//! plausible wrong rules of moving are put in the right one's place. Each has to be reported.
+//! plausible wrong rules of moving and of times are put in the right one's place. Each has to be reported.
+
+use std::mem::offset_of;
 
 use scion_proto::{
     Answer, Expiry, Headers, HopField, InfoField, Interface, InterfaceCount, Packet, PathAnswer, PathRead, Segment,
@@ -12,7 +14,7 @@ use crate::plant::{self, Fault, Plant};
 use crate::random::Random;
 use crate::shapes::{self, Pointers};
 use crate::tally::{CALLS, Call};
-use crate::{events, lines, list, packets, paths, plain, writing};
+use crate::{events, lines, list, packets, paths, plain, records, writing};
 
 /// The bytes of a type that count: those whose change makes another value, padding left out.
 fn bytes_of<T: Default + PartialEq + Copy>() -> Vec<usize> {
@@ -33,28 +35,34 @@ fn answer_bytes(call: Call) -> Vec<usize> {
         Call::HopField => bytes_of::<HopField>(),
         Call::Segment => bytes_of::<Segment>(),
         Call::SegmentExpiry | Call::Expiry => bytes_of::<Expiry>(),
-        Call::TimeLeft => bytes_of::<TimeLeft>(),
+        Call::TimeLeft | Call::RecordTimeLeft => bytes_of::<TimeLeft>(),
         Call::InterfacesCount => bytes_of::<InterfaceCount>(),
         Call::Interface => bytes_of::<Interface>(),
         Call::SetIngressAlert | Call::SetEgressAlert => bytes_of::<PathAnswer>(),
         Call::CopyPath | Call::ReversePath | Call::Move => bytes_of::<PathAnswer>(),
         Call::Walk => bytes_of::<Walk>(),
         Call::ReadPacket => bytes_of::<Packet>(),
+        Call::RecordExpiry => bytes_of::<u64>(),
         Call::NewHeaders => bytes_of::<Headers>(),
         Call::HeadersLength => bytes_of::<usize>(),
         Call::WriteHeaders | Call::WriteNewHeaders => bytes_of::<Answer>(),
     }
 }
 
-/// Calls that never refuse and lend no bytes.
+/// Calls that never refuse.
 fn is_plain(call: Call) -> bool {
-    matches!(call, Call::NewHeaders | Call::HeadersLength)
+    matches!(call, Call::NewHeaders | Call::HeadersLength | Call::RecordExpiry)
+}
+
+/// Calls that lend bytes: those that may refuse, but for the one on a record.
+fn lends(call: Call) -> bool {
+    !is_plain(call) && call != Call::RecordTimeLeft
 }
 
 /// Every fault of a call.
 fn faults(call: Call) -> Vec<Plant> {
     let mut all: Vec<Fault> = answer_bytes(call).into_iter().map(Fault::AnswerByte).collect();
-    if !is_plain(call) {
+    if lends(call) {
         all.extend([0, 7, 15, 16, 17, 19].map(Fault::LentByte));
         all.extend([0, 8, 15].map(Fault::LentByteFromEnd));
         if call != Call::ReadPacket {
@@ -76,6 +84,7 @@ fn short_run(checker: &mut Checker) {
     for _ in 0..20 {
         packets::random_packet(checker, &mut random);
         writing::random_headers(checker, &mut random);
+        records::random_record(checker, &mut random);
     }
 }
 
@@ -90,6 +99,10 @@ fn event_run(checker: &mut Checker) {
     }
 }
 
+/// Where the expiry of its record starts in the answer to a move, a walk or a turn.
+const EXPIRY_AT: usize = offset_of!(PathAnswer, path.expiry);
+const _: () = assert!(EXPIRY_AT == offset_of!(Walk, path.expiry));
+
 /// Whether a run reports a fault.
 fn is_reported(plant: Plant, run: fn(&mut Checker)) -> bool {
     let mut checker = Checker::planted(plant);
@@ -97,16 +110,18 @@ fn is_reported(plant: Plant, run: fn(&mut Checker)) -> bool {
     checker.tally.differed > 0
 }
 
-/// The faults that event lists alone have to find: the number of an answer, and every byte of a path.
+/// The faults that event lists alone have to find: the number of an answer, the expiry in its record, and every byte of a
+/// path.
 fn event_faults() -> Vec<Plant> {
     let mut all = Vec::new();
     for call in [Call::Move, Call::Walk, Call::ReversePath] {
         let fault = |fault| Plant { call, accepted: true, fault };
         all.push(fault(Fault::AnswerByte(0)));
+        all.extend((EXPIRY_AT..EXPIRY_AT + 8).map(|at| fault(Fault::AnswerByte(at))));
         all.extend((0..24).map(|at| fault(Fault::LentByte(at))));
         all.extend((0..12).map(|at| fault(Fault::LentByteFromEnd(at))));
     }
-    all.push(Plant { call: Call::Walk, accepted: true, fault: Fault::AnswerByte(8) });
+    all.push(Plant { call: Call::Walk, accepted: true, fault: Fault::AnswerByte(offset_of!(Walk, moves)) });
     for call in [Call::Move, Call::ReversePath] {
         all.push(Plant { call, accepted: false, fault: Fault::AnswerByte(0) });
         all.push(Plant { call, accepted: false, fault: Fault::LentByte(2) });
@@ -119,15 +134,28 @@ fn move_run(checker: &mut Checker) {
     paths::every_shape(checker, &mut Random::new(7), 3);
 }
 
-/// How many wrong rules of moving go unseen, by calls or by event lists. Lists begin with paths that moves admit, so
-/// that rules of refusal are not theirs to find, and end walks elsewhere than a rule of stopping says.
+/// The runs that have to tell a wrong rule from the right one. Event lists begin with paths that moves admit, so that
+/// rules of refusal are not theirs to find; all of such a path lies ahead; and they ask no record for its time left.
+fn runs_of(twist: Twist) -> &'static [fn(&mut Checker)] {
+    match twist {
+        Twist::SixtyFiveAreNotTooMany | Twist::PeeringOnOneIsFine | Twist::ExpiryOfTheHopFieldsAhead => &[move_run],
+        Twist::LargestExpiryIsTooWide
+        | Twist::OneMoreThanTheLargestExpiryIsNot
+        | Twist::AnyExpiryIsTaken
+        | Twist::LatestNowIsTooLate
+        | Twist::AnyNowIsTaken
+        | Twist::NoExpiryIsRefused
+        | Twist::NothingIsLeftOnceItHasExpired => &[records::borders],
+        _ => &[move_run, event_run],
+    }
+}
+
+/// How many wrong rules go unseen, by calls, by event lists or by records made by hand.
 fn missed_twists() -> usize {
     let mut missed = 0;
     for twist in TWISTS {
         model::twist(twist);
-        let refuses = matches!(twist, Twist::SixtyFiveAreNotTooMany | Twist::PeeringOnOneIsFine);
-        let runs: &[fn(&mut Checker)] = if refuses { &[move_run] } else { &[move_run, event_run] };
-        for run in runs {
+        for run in runs_of(twist) {
             let mut checker = Checker::stopping();
             run(&mut checker);
             if checker.tally.differed == 0 {
@@ -198,7 +226,7 @@ pub fn run() -> bool {
         missed += report(plant, is_reported(plant, event_run), "event lists");
     }
     let twists = missed_twists();
-    println!("{} wrong rules of moving, {twists} missed", TWISTS.len());
+    println!("{} wrong rules of moving and of times, {twists} missed", TWISTS.len());
     let (stored, stored_missed) = stored_faults();
     println!("planted {stored} faults in stored answers, {stored_missed} missed");
     let (plain, plain_missed) = plain_faults();

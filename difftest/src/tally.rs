@@ -17,6 +17,8 @@ pub enum Call {
     TimeLeft,
     InterfacesCount,
     Interface,
+    RecordExpiry,
+    RecordTimeLeft,
     SetIngressAlert,
     SetEgressAlert,
     CopyPath,
@@ -31,7 +33,7 @@ pub enum Call {
 }
 
 /// Every call, in the order of the tables.
-pub const CALLS: [Call; 20] = [
+pub const CALLS: [Call; 22] = [
     Call::ReadPath,
     Call::InfoField,
     Call::HopField,
@@ -41,6 +43,8 @@ pub const CALLS: [Call; 20] = [
     Call::TimeLeft,
     Call::InterfacesCount,
     Call::Interface,
+    Call::RecordExpiry,
+    Call::RecordTimeLeft,
     Call::SetIngressAlert,
     Call::SetEgressAlert,
     Call::CopyPath,
@@ -125,6 +129,16 @@ impl Tally {
     /// How many calls have been compared.
     pub fn compared(&self) -> u64 {
         self.counts.iter().flatten().sum()
+    }
+
+    /// How many of them were given a record and no bytes.
+    fn compared_of_records(&self) -> u64 {
+        [Call::RecordExpiry, Call::RecordTimeLeft].iter().flat_map(|call| self.counts[*call as usize]).sum()
+    }
+
+    /// How many of them were given bytes or headers: by these a random part's size is told.
+    pub fn compared_of_bytes(&self) -> u64 {
+        self.compared() - self.compared_of_records()
     }
 
     /// Compares two answers to a call; `input` is asked for only where they differ.

@@ -44,7 +44,6 @@ fn accepted(bytes: &[u8], packet: ScionPacketRaw) {
     let common = packet.common;
     let address = packet.address;
     let path = packet.path;
-    let meta_header = path.meta_header;
     let path_part = packet.path_part;
     let payload_part = packet.payload_part;
     let path_bytes = packet.path(bytes);
@@ -55,7 +54,7 @@ fn accepted(bytes: &[u8], packet: ScionPacketRaw) {
     text::number_line(b"  starts at", path_part.start as u64);
     text::hex_line(b"  bytes", path_bytes);
     if common.path_type == 1 {
-        path_lines::path(path_bytes, meta_header);
+        path_lines::path(path_bytes, path);
     }
     text::text(b"payload\n");
     text::number_line(b"  starts at", payload_part.start as u64);

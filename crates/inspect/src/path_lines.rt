@@ -4,6 +4,7 @@ use crate::text;
 use errors::path_error::Answer;
 use errors::path_error::PathError;
 use path::dataplane::DataplanePath;
+use path::standard::StandardPath;
 use path_fields::HopField;
 use path_fields::InfoField;
 use path_fields::Interface;
@@ -223,14 +224,14 @@ fn path_expiry_line(ms: u64) {
     text::text(b" ms since 1970\n");
 }
 
-// A standard path, all of `bytes`.
-pub fn path(bytes: &[u8], meta_header: PathMetaHeader) {
+// A standard path, all of `bytes`, by its record.
+pub fn path(bytes: &[u8], path: StandardPath) {
+    let meta_header = path.meta_header;
     text::number_line(b"  info pointer", meta_header.current_info_field as u64);
     text::number_line(b"  hop pointer", meta_header.current_hop_field as u64);
     text::number_line(b"  reserved", meta_header.reserved as u64);
     text::number_line(b"  hop fields", meta_header.hop_fields_count() as u64);
-    let expiry = path_expiry::expiry_time(standard(), bytes);
-    path_expiry_line(expiry.ms);
+    path_expiry_line(path.expiry_time());
     segments(bytes, meta_header);
     interfaces(bytes, meta_header);
     onward_in_room(bytes);

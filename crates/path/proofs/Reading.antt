@@ -273,8 +273,7 @@ module _ (bytes : List ℕ) (type : ℕ) where
       → alerted bit on type bytes j ≡ refused error
   unfolding hopFieldIn alerted
   alerted-refused bit on j h =
-      refused-alike (λ m. hopFieldOffset m j) (λ m start. record { start = start; len = 12 })
-      (λ m flags. set bytes flags (withBit bit on (getD bytes flags 0))) (standard type bytes) h
+      refused-alike (λ m. hopFieldOffset m j) (λ m start. record { start = start; len = 12 }) _ (standard type bytes) h
 
   segment-view : (k : ℕ) (v : Fields) → segmentIn type bytes k ≡ ok v → Among bytes (v .info) × Among bytes (v .hops)
   unfolding segmentIn

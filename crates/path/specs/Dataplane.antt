@@ -150,5 +150,6 @@ alerted bit on type bytes j = do
   flags ← hopFieldOffset m j
   ok (set bytes flags (withBit bit on (getD bytes flags 0)))
 
+-- a theorem: the record of the path that is left fits it, and has the expiry of the path that was read
 abbrev pub AlertFlagsKeepExpiry : Type 0
 AlertFlagsKeepExpiry = (bit : ℕ) (on : Bool) (bytes : List ℕ) (j : ℕ) → KeepsExpiry bytes (alerted bit on 1 bytes j)

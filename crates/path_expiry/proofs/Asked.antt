@@ -30,7 +30,7 @@ module _ (type : ℕ) (bytes : List ℕ) (m : PathMetaHeader) (read : standard t
   -- which is within the record's own bound, so that this test is always met
   pub time-left-stored : pathOf type bytes .expiry ≤ largestExpiry → (now : ℕ) → timeLeftIn type bytes now ≡ timeLeftOf (pathOf type bytes) now
   unfolding timeLeftIn timeLeftOf
-  time-left-stored bounded now = rw (expiry-stored, le-leb _ _ bounded)
+  time-left-stored bounded now = rw (expiry-stored, le-leb _ _ bounded) refl
 
 -- one that was not
 neither : (type : ℕ) (bytes : List ℕ) {error : PathError} → standard type bytes ≡ refused error

@@ -66,10 +66,10 @@ pub fn path_expiry(bytes: &[u8], meta_header: PathMetaHeader) -> u64
 {
     let count = meta_header.info_fields_count();
     let mut least = segment_expiry(bytes, meta_header, 0);
-    let mut last: usize = 0;
-    while last + 1 < count {
-        last += 1;
-        let next = segment_expiry(bytes, meta_header, last);
+    let mut k: usize = 0;
+    while k + 1 < count {
+        k += 1;
+        let next = segment_expiry(bytes, meta_header, k);
         least = lesser(least, next);
     }
     least

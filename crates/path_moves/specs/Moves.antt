@@ -132,7 +132,7 @@ AllElseStays =
     → (j ≡ infoStart (m .«current_info_field») + 2 → ⊥) × (j ≡ infoStart (m .«current_info_field») + 3 → ⊥))
     → getD after j 0 ≡ getD bytes j 0)
 
--- a move leaves no timestamp and no expiry byte changed, and so the path's expiry; and so does a walk
+-- the record of the path that a move leaves fits it, and has the expiry of the path that was read; and so after a walk
 abbrev pub MovesKeepExpiry : Type 0
 MovesKeepExpiry =
     (bytes : List ℕ) → ((i : ℕ) → getD bytes i 0 < 256)

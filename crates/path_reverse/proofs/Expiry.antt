@@ -29,10 +29,10 @@ use Rattle.path_least_expiry.proofs.Least.{least-back}
 use Rattle.path.specs.Standard.{infoAt, readRecord}
 use Rattle.path.specs.Dataplane.{Extent, readDataplane, pathOf}
 use Rattle.path.specs.declared.standard.StandardPath.{StandardPath}
-use Rattle.path.proofs.Reading.{by-record, no-record, Readable, record-readable, path-of}
+use Rattle.path.proofs.Reading.{by-record, no-record, Readable, readable, record-readable, path-of}
 use Rattle.path.proofs.Kept.{path-kept, keeps, readable-within, within}
 use Rattle.path_reverse.specs.Copy.{copy, CopyKeepsExpiry}
-use Rattle.path_reverse.specs.Reverse.{reversedPath, reversedBytes, reverse, ReversalKeepsExpiry}
+use Rattle.path_reverse.specs.Reverse.{reversedPath, reversedBytes, reverse, ReversedExpiry, ReversalKeepsExpiry}
 use Rattle.path_reverse.proofs.Copy.{into-left}
 use Rattle.path_reverse.proofs.Reverse.{length-reversedPath, reversible}
 use Rattle.path_reverse.proofs.Reversed.{reversed-word, reversed-hop-field, reversed-info-field}
@@ -109,6 +109,9 @@ module _ (x : List ℕ) (m : PathMetaHeader) (r : Readable x m) where
   expiry-reversed =
       ap (λ (n : ℕ). least (segmentExpiry y t) (n - 1)) infos
       ∙ least-back (segmentExpiry y t) (segmentExpiry x m) (I - 1) (λ k h. segment-back k (omega (arith, r .sound-meta .info)))
+
+pub reversed-expiry : ReversedExpiry
+reversed-expiry bytes m read = expiry-reversed bytes m (readable bytes read)
 
 -- A COPY
 

@@ -20,6 +20,6 @@ copy type bytes dst = do
   read ← refusing Decode (readDataplane type bytes)
   into type (take (read .length) bytes) dst
 
--- a theorem: a copy is the path's own bytes
+-- a theorem: the record of a copy fits it, and has the expiry of the path that was read
 abbrev pub CopyKeepsExpiry : Type 0
 CopyKeepsExpiry = (bytes dst : List ℕ) → KeepsExpiry bytes (copy 1 bytes dst)

@@ -16,6 +16,7 @@ use Rattle.path_meta_header.specs.Encoding.{metaFits, wordOf}
 use Rattle.path_meta_header.specs.declared.PathMetaHeader.{PathMetaHeader}
 use Rattle.errors.specs.declared.path_error.PathError.{PathError}
 use Rattle.errors.specs.declared.path_error.PathError.the-variants.{Decode}
+use Rattle.path_least_expiry.specs.Expiry.{pathExpiry}
 use Rattle.path.specs.Standard.{readPath}
 use Rattle.path.specs.Dataplane.{Extent, readDataplane, KeepsExpiry}
 use Rattle.path_reverse.specs.Copy.{into}
@@ -44,6 +45,10 @@ reversedUnder h m bytes =
 unfoldable pub reversedPath : PathMetaHeader → List ℕ → List ℕ
 reversedPath m bytes = reversedUnder (reversedMeta m) m bytes
 
+-- a theorem: it expires when the path does, for the least over the segments in opposite order is the least
+abbrev pub ReversedExpiry : Type 0
+ReversedExpiry = (bytes : List ℕ) (m : PathMetaHeader) → readPath bytes ≡ ok m → pathExpiry (reversedPath m bytes) (reversedMeta m) ≡ pathExpiry bytes m
+
 -- reversed twice: the path that was read, with its pointers at the start and its reserved bits zero
 abbrev pub ReversedTwice : Type 0
 ReversedTwice =
@@ -66,6 +71,6 @@ reverse type bytes dst = do
   read ← refusing Decode (readDataplane type bytes)
   into type (reversedBytes type read bytes) dst
 
--- a theorem: the least over the segments in opposite order is the least
+-- a theorem: the record of the path that is written fits it, and has the expiry of the path that was read
 abbrev pub ReversalKeepsExpiry : Type 0
 ReversalKeepsExpiry = (bytes dst : List ℕ) → KeepsExpiry bytes (reverse 1 bytes dst)

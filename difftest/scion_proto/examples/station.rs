@@ -7,7 +7,7 @@
 
 use std::process::ExitCode;
 
-use scion_proto::{Ends, Headers, PATH_EMPTY, Packet, Path, Refusal};
+use scion_proto::{Ends, Headers, PATH_EMPTY, PATH_STANDARD, Packet, Path, Refusal};
 
 /// The interfaces that a path may use, how long the flight takes in ms, and what is answered.
 const LISTED: [u16; 6] = [1, 2, 3, 4, 5, 7];
@@ -17,6 +17,7 @@ const PAYLOAD: &[u8] = b"here";
 /// Why a packet is not taken.
 enum Why {
     Refused(&'static str, Refusal),
+    NotStandard(u8),
     NotListed(u16, usize),
     TooLittleTime(i64),
 }
@@ -39,9 +40,9 @@ fn check_interfaces(path_type: u8, path: &[u8]) -> Result<(), Why> {
     Ok(())
 }
 
-/// The path must outlive the flight.
-fn check_time(path_type: u8, path: &[u8], now: u64) -> Result<(), Why> {
-    let left = scion_proto::time_left(path_type, path, now).map_err(of("time left"))?;
+/// The path must outlive the flight. When it expires stands in the packet's record: no byte is read again.
+fn check_time(path: &Path, now: u64) -> Result<(), Why> {
+    let left = path.time_left(now).map_err(of("time left"))?;
     if left <= FLIGHT {
         return Err(Why::TooLittleTime(left));
     }
@@ -79,8 +80,12 @@ fn take(bytes: &mut [u8], now: u64) -> Result<(), Why> {
     println!("packet: {} bytes of path, {} bytes of payload", path.len(), packet.payload_part.len);
     // An empty path stays inside one network: there is nothing to check and nothing to move.
     if packet.path_type != PATH_EMPTY {
+        // Only a standard path has interfaces and an expiry: the record of any other is zero, and its 0 is no expiry.
+        if packet.path_type != PATH_STANDARD {
+            return Err(Why::NotStandard(packet.path_type));
+        }
         check_interfaces(packet.path_type, path)?;
-        check_time(packet.path_type, path, now)?;
+        check_time(&packet.path, now)?;
         if !has_arrived(&packet.path) {
             let moved = scion_proto::single_move(packet.path_type, path).map_err(of("move"))?;
             println!("moved on: info field {}, hop field {}", moved.current_info_field, moved.current_hop_field);
@@ -115,6 +120,9 @@ fn main() -> ExitCode {
     match take(&mut bytes, now) {
         Ok(()) => return ExitCode::SUCCESS,
         Err(Why::Refused(what, refusal)) => println!("{what} refused: {refusal}"),
+        Err(Why::NotStandard(path_type)) => {
+            println!("path refused: type {path_type} is not a standard path, and has no expiry");
+        }
         Err(Why::NotListed(id, hop_field)) => println!("interface {id} of hop field {hop_field} is not listed"),
         Err(Why::TooLittleTime(left)) => println!("the path has {left} ms left, the flight takes {FLIGHT}"),
     }

@@ -1,6 +1,6 @@
 //! Each call with its whole answer, the zeros of a refusal included.
 //!
-//! The library asks for memory alone, which a slice is: that makes each of these calls safe.
+//! The library asks for memory alone, which a slice is, and for nothing of a record: that makes each of these calls safe.
 
 use crate::declared as c;
 use crate::types::*;
@@ -53,6 +53,16 @@ pub fn interfaces_count(path_type: u8, bytes: &[u8]) -> InterfaceCount {
 /// `scion_interface`.
 pub fn interface(path_type: u8, bytes: &[u8], index: usize) -> Interface {
     unsafe { c::scion_interface(path_type, bytes.as_ptr(), bytes.len(), index) }
+}
+
+/// `scion_record_expiry`.
+pub fn record_expiry(path: Path) -> u64 {
+    unsafe { c::scion_record_expiry(path) }
+}
+
+/// `scion_record_time_left`.
+pub fn record_time_left(path: Path, now: u64) -> TimeLeft {
+    unsafe { c::scion_record_time_left(path, now) }
 }
 
 /// `scion_set_ingress_router_alert`.

@@ -13,6 +13,8 @@ unsafe extern "C" {
     pub fn scion_time_left(path_type: u8, bytes: *const u8, len: usize, now: u64) -> TimeLeft;
     pub fn scion_interfaces_count(path_type: u8, bytes: *const u8, len: usize) -> InterfaceCount;
     pub fn scion_interface(path_type: u8, bytes: *const u8, len: usize, index: usize) -> Interface;
+    pub fn scion_record_expiry(path: Path) -> u64;
+    pub fn scion_record_time_left(path: Path, now: u64) -> TimeLeft;
     pub fn scion_set_ingress_router_alert(
         path_type: u8,
         bytes: *mut u8,

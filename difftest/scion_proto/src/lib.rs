@@ -107,6 +107,23 @@ pub fn write_new_headers(
     calls::write_new_headers(ends, path_type, next_header, payload_length, flow_id, path, dst).result().map(|_| ())
 }
 
+impl Path {
+    /// The expiry that is stored in the record, in ms since 1970, without a look at any bytes; 0 where there is none.
+    ///
+    /// A record that was made by hand gives the number that was put there.
+    pub fn expiry_time(&self) -> u64 {
+        calls::record_expiry(*self)
+    }
+
+    /// The stored expiry less `now`, in ms, without a look at any bytes; 10 where it is above [`MAX_EXPIRY`] or `now`
+    /// above [`MAX_NOW`].
+    ///
+    /// This is arithmetic on any record: one without a path, whose expiry is 0, has to be ruled out first.
+    pub fn time_left(&self, now: u64) -> Result<i64, Refusal> {
+        Ok(calls::record_time_left(*self, now).result()?.ms)
+    }
+}
+
 impl Headers {
     /// Headers between two hosts: version, traffic class and reserved 0, and the factor that follows from the lengths.
     pub fn new(

@@ -25,6 +25,8 @@ pub const HOP_INGRESS_ALERT: u8 = 0x02;
 
 /// The latest `now` that is taken, in ms since 1970.
 pub const MAX_NOW: u64 = 9_000_000_000_000;
+/// The latest expiry that a path can have, in ms since 1970.
+pub const MAX_EXPIRY: u64 = 4_295_053_695_000;
 
 /// An answer: 0, or a refusal's number with its value.
 #[repr(C)]
@@ -73,6 +75,10 @@ impl std::error::Error for Refusal {}
 
 /// The record of a standard path as the call leaves it; all zero for other types. A packet has arrived when
 /// `current_hop_field` is the last of all segments' hop fields.
+///
+/// `expiry` is when the path expires, in ms since 1970. An `expiry` of 0 is no expiry, and not a path that expired in
+/// 1970: the record is not of a standard path. A record that was kept says nothing about bytes that were changed since
+/// by other means.
 #[repr(C)]
 #[derive(Debug, Clone, Copy, PartialEq, Eq, Default)]
 pub struct Path {
@@ -80,6 +86,7 @@ pub struct Path {
     pub current_hop_field: u8,
     pub reserved: u8,
     pub segment_lengths: [u8; 3],
+    pub expiry: u64,
 }
 
 /// A part of the caller's bytes.
@@ -325,27 +332,27 @@ macro_rules! laid_out {
 }
 
 laid_out!(Answer: 2 { number @ 0 value @ 1 });
-laid_out!(Path: 6 { current_info_field @ 0 current_hop_field @ 1 reserved @ 2 segment_lengths @ 3 });
+laid_out!(Path: 16 { current_info_field @ 0 current_hop_field @ 1 reserved @ 2 segment_lengths @ 3 expiry @ 8 });
 laid_out!(Part: 16 { start @ 0 len @ 8 });
 laid_out!(Host: 20 { kind @ 0 service @ 2 bytes @ 4 });
-laid_out!(PathAnswer: 8 { answer @ 0 path @ 2 });
-laid_out!(PathRead: 16 { answer @ 0 path @ 2 length @ 8 });
-laid_out!(InfoField: 24 {
-    answer @ 0 path @ 2 start @ 8 flags @ 16 reserved @ 17 accumulator @ 18 timestamp @ 20
+laid_out!(PathAnswer: 24 { answer @ 0 path @ 8 });
+laid_out!(PathRead: 32 { answer @ 0 path @ 8 length @ 24 });
+laid_out!(InfoField: 40 {
+    answer @ 0 path @ 8 start @ 24 flags @ 32 reserved @ 33 accumulator @ 34 timestamp @ 36
 });
-laid_out!(HopField: 32 {
-    answer @ 0 path @ 2 start @ 8 flags @ 16 exp_time @ 17 cons_ingress @ 18 cons_egress @ 20 mac @ 22
+laid_out!(HopField: 48 {
+    answer @ 0 path @ 8 start @ 24 flags @ 32 exp_time @ 33 cons_ingress @ 34 cons_egress @ 36 mac @ 38
 });
-laid_out!(Segment: 40 { answer @ 0 path @ 2 info_field @ 8 hop_fields @ 24 });
-laid_out!(Expiry: 16 { answer @ 0 path @ 2 ms @ 8 });
-laid_out!(TimeLeft: 16 { answer @ 0 path @ 2 ms @ 8 });
-laid_out!(InterfaceCount: 16 { answer @ 0 path @ 2 count @ 8 });
-laid_out!(Interface: 24 { answer @ 0 path @ 2 hop_field @ 8 id @ 16 });
-laid_out!(Walk: 24 { answer @ 0 path @ 2 moves @ 8 arrived @ 16 });
-laid_out!(Packet: 112 {
-    answer @ 0 path @ 2 version @ 8 traffic_class @ 9 next_header @ 10 header_length_factor @ 11 path_type @ 12
-    payload_length @ 14 reserved @ 16 flow_id @ 20 destination_ia @ 24 source_ia @ 32 destination @ 40 source @ 60
-    path_part @ 80 payload_part @ 96
+laid_out!(Segment: 56 { answer @ 0 path @ 8 info_field @ 24 hop_fields @ 40 });
+laid_out!(Expiry: 32 { answer @ 0 path @ 8 ms @ 24 });
+laid_out!(TimeLeft: 32 { answer @ 0 path @ 8 ms @ 24 });
+laid_out!(InterfaceCount: 32 { answer @ 0 path @ 8 count @ 24 });
+laid_out!(Interface: 40 { answer @ 0 path @ 8 hop_field @ 24 id @ 32 });
+laid_out!(Walk: 40 { answer @ 0 path @ 8 moves @ 24 arrived @ 32 });
+laid_out!(Packet: 128 {
+    answer @ 0 path @ 8 version @ 24 traffic_class @ 25 next_header @ 26 header_length_factor @ 27 path_type @ 28
+    payload_length @ 30 reserved @ 32 flow_id @ 36 destination_ia @ 40 source_ia @ 48 destination @ 56 source @ 76
+    path_part @ 96 payload_part @ 112
 });
 laid_out!(Headers: 88 {
     version @ 0 traffic_class @ 1 next_header @ 2 path_type @ 3 reserved @ 4 flow_id @ 8 header_length_factor @ 16

@@ -12,7 +12,7 @@ use scion_rs::wire_encoding::{MaybeEncoded, WireDecode, WireEncode};
 use super::Line;
 use super::paths::add_record;
 use crate::oracle::path::Oracle;
-use crate::oracle::{number_of, panics, record, refusal};
+use crate::oracle::{number_of, panics, record_with, refusal};
 use crate::tally::{Exception, Source};
 
 /// The meta header of six numbers; none where one is too wide.
@@ -43,7 +43,7 @@ fn meta(line: &mut Line) {
     match PathMetaHeader::decode(&mut &bytes[..]) {
         Ok(meta) => {
             line.add(0).add(0);
-            add_record(line, record(&meta));
+            add_record(line, record_with(&meta, 0));
         }
         Err(error) => {
             let answer = number_of(error);

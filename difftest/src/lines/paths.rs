@@ -8,11 +8,11 @@ use crate::oracle::path::Oracle;
 use crate::tally::Source;
 
 /// Adds a number and a value.
-fn add_answer(line: &mut Line, answer: Answer) {
+pub fn add_answer(line: &mut Line, answer: Answer) {
     line.add(answer.number).add(answer.value);
 }
 
-/// Adds a record's fields.
+/// Adds the six numbers of a record's meta header; the lines on records add the expiry.
 pub fn add_record(line: &mut Line, path: Path) {
     line.add(path.current_info_field).add(path.current_hop_field).add(path.reserved);
     for length in path.segment_lengths {

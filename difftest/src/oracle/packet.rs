@@ -3,7 +3,6 @@
 use scion_proto::{Host, Packet, Part};
 use scion_rs::address::HostAddr;
 use scion_rs::packet::{AddressInfo, CommonHeader, RawHostAddress, ScionPacketRaw};
-use scion_rs::path::DataplanePath;
 use scion_rs::wire_encoding::{MaybeEncoded, WireDecode, WireEncode};
 
 use super::{ACCEPTED, Refused, lend, number_of, offset, record};
@@ -33,10 +32,7 @@ fn values(bytes: &[u8], packet: &ScionPacketRaw) -> Packet {
     let payload_start = common.header_length().min(bytes.len());
     Packet {
         answer: ACCEPTED,
-        path: match path {
-            DataplanePath::Standard(path) => record(path.meta_header()),
-            _ => Default::default(),
-        },
+        path: record(path),
         version: common.version.get(),
         traffic_class: common.traffic_class,
         next_header: common.next_header,

@@ -1,5 +1,7 @@
 //! Paths: reading, views, times, interfaces, alert flags, copies and turns by the Rust.
 
+use std::cell::OnceCell;
+
 use bytes::Bytes;
 use scion_proto::{
     Answer, Expiry, HopField, InfoField, Interface, InterfaceCount, Part, Path, PathAnswer, PathRead, Segment, TimeLeft,
@@ -8,16 +10,17 @@ use scion_rs::path::standard::{HopField as RustHopField, InfoField as RustInfoFi
 use scion_rs::path::{DataplanePath, PathType, StandardPath};
 use scion_rs::wire_encoding::WireDecodeWithContext;
 
-use super::{ACCEPTED, Refused, lend, number_of, offset, panics, record, refusal};
+use super::{ACCEPTED, Refused, expiry_of, lend, number_of, offset, panics, record, record_with, refusal};
 use crate::tally::{Exception, Source};
 
 /// The largest now of document 01.
 pub const LATEST_NOW: u64 = 9_000_000_000_000;
 
-/// A type byte and bytes, as the Rust read them.
+/// A type byte and bytes, as the Rust read them, and when the path expires, once the Rust was asked for it.
 pub struct Oracle<'a> {
     bytes: &'a [u8],
     read: Result<DataplanePath<Bytes>, Answer>,
+    expiry: OnceCell<u64>,
 }
 
 /// What a call is to answer, and whose answer that is.
@@ -28,7 +31,12 @@ impl<'a> Oracle<'a> {
     pub fn new(path_type: u8, bytes: &'a [u8]) -> Self {
         let context = (PathType::from(path_type), bytes.len());
         let read = DataplanePath::decode_with_context(&mut lend(bytes), context).map_err(number_of);
-        Self { bytes, read }
+        Self { bytes, read, expiry: OnceCell::new() }
+    }
+
+    /// The same with the expiry that the Rust gave for a path of the same fields.
+    pub fn with_expiry(self, expiry: u64) -> Self {
+        Self { expiry: expiry.into(), ..self }
     }
 
     /// The answer to reading.
@@ -39,12 +47,14 @@ impl<'a> Oracle<'a> {
         }
     }
 
-    /// The path's record, zero where it is not a standard one.
+    /// The path's record with the Rust's own expiry, zero where it is not a standard one.
     pub fn record(&self) -> Path {
-        match &self.read {
-            Ok(DataplanePath::Standard(path)) => record(path.meta_header()),
-            _ => Path::default(),
-        }
+        self.standard().map_or(Path::default(), |path| record_with(path.meta_header(), self.expiry_of(path)))
+    }
+
+    /// When the path expires, by the Rust.
+    fn expiry_of(&self, path: &StandardPath) -> u64 {
+        *self.expiry.get_or_init(|| expiry_of(path))
     }
 
     /// The standard path: the reading's number, or 8 for other types, where there is none.
@@ -146,16 +156,17 @@ impl<'a> Oracle<'a> {
 
     /// When segment `index` expires.
     pub fn segment_expiry(&self, index: usize) -> Expiry {
-        answered(self.rust_segment(index).map(|segment| self.expiring(segment.expiry_time().timestamp_millis())))
+        let ms = |segment: RustSegment| u64::try_from(segment.expiry_time().timestamp_millis()).expect("after 1970");
+        answered(self.rust_segment(index).map(|segment| self.expiring(ms(segment))))
     }
 
     /// When the path expires.
     pub fn expiry(&self) -> Expiry {
-        answered(self.standard().map(|path| self.expiring(path.expiry_time().timestamp_millis())))
+        answered(self.standard().map(|path| self.expiring(self.expiry_of(path))))
     }
 
-    fn expiring(&self, ms: i64) -> Expiry {
-        Expiry { answer: ACCEPTED, path: self.record(), ms: u64::try_from(ms).expect("after 1970") }
+    fn expiring(&self, ms: u64) -> Expiry {
+        Expiry { answer: ACCEPTED, path: self.record(), ms }
     }
 
     /// The Rust's expiry less now: added by document 01, as is its bound on now.
@@ -224,12 +235,7 @@ impl<'a> Oracle<'a> {
         } else {
             field.set_cons_egress_router_alert(on);
         }
-        Ok(self.accepted())
-    }
-
-    /// Accepted, with the record.
-    pub fn accepted(&self) -> PathAnswer {
-        PathAnswer { answer: ACCEPTED, path: self.record() }
+        Ok(PathAnswer { answer: ACCEPTED, path: record_with(copy.meta_header(), expiry_of(&copy)) })
     }
 
     /// The path copied to `dst`.
@@ -271,11 +277,7 @@ pub fn derived(field: &RustHopField, info: &RustInfoField) -> (u16, u16, i64) {
 
 /// Accepted, with the record of the path that the Rust has written.
 fn written(path: &DataplanePath<&mut [u8]>) -> PathAnswer {
-    let path = match path {
-        DataplanePath::Standard(path) => record(path.meta_header()),
-        _ => Path::default(),
-    };
-    PathAnswer { answer: ACCEPTED, path }
+    PathAnswer { answer: ACCEPTED, path: record(path) }
 }
 
 /// The answer, or its refusal in the same shape.

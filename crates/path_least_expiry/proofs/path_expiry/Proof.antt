@@ -1,4 +1,4 @@
--- `path_expiry` meets its contract. The loop's invariant: `least` is the least expiry of the segments up to `last`, which is one of them.
+-- `path_expiry` meets its contract. The loop's invariant: `least` is the least expiry of the segments up to `k`, which is one of them.
 use borrow.Author.Needs.{needs}
 use Prim.Native.Nat.{_-_, _<_, _≤_}
 use mathlib.Core.Path.{_≡_}
@@ -10,11 +10,11 @@ use Rattle.path_least_expiry.proofs.path_expiry.Statement.{statement}
 use Rattle.path_least_expiry.proofs.path_expiry.Tie as tie
 
 abbrev Inv-loop : tie.InvT-loop
-Inv-loop bytes meta-header count least₀ last₀ least last =
-    (last < count) × (least ≡ spec.least (spec.segmentExpiry bytes meta-header) last) × (least ≤ spec.largestExpiry)
+Inv-loop bytes meta-header count least₀ k₀ least k =
+    (k < count) × (least ≡ spec.least (spec.segmentExpiry bytes meta-header) k) × (least ≤ spec.largestExpiry)
 
 abbrev μ-loop : tie.MeasureT-loop
-μ-loop bytes meta-header count least₀ last₀ least last = count - last
+μ-loop bytes meta-header count least₀ k₀ least k = count - k
 
 loop-holds : tie.Need-loop-holds Inv-loop μ-loop
 unfolding spec.least
@@ -30,7 +30,7 @@ loop-again c = (
 returns : tie.Need-returns Inv-loop μ-loop
 unfolding spec.pathExpiry
 returns c =
-    let e : c .before .loop .last ≡ infoFieldsCount (c .before .before .before .before .before .args .meta-header) - 1 = omega arith in
+    let e : c .before .loop .k ≡ infoFieldsCount (c .before .before .before .before .before .args .meta-header) - 1 = omega arith in
     (rw e at (c .before .loop .inv .1), search needs)
 
 pub path-expiry-spec : {M : Type 1} → statement M

@@ -7,6 +7,7 @@ use lib.IntN.{ℤ}
 use mir.Syntax.{w64}
 use mir.Facts.{toZ-ofZ}
 use Rattle.errors.specs.declared.path_error.Answer.the-variants.{Accepted}
+use Rattle.path_least_expiry.specs.Expiry.{largestExpiry}
 use Rattle.path.specs.declared.standard.time_left.TimeLeft.{TimeLeft}
 use Rattle.path.specs.TimeLeft as spec
 use borrow.Author.Needs.{needs}
@@ -15,11 +16,11 @@ use Rattle.path.proofs.standard.StandardPath.time_left.Tie as tie
 
 returns : tie.Need-returns
 unfolding spec.timeLeftOf spec.timeLeftFound
-returns c = rw (lt-leb _ _ (c .before .if1 .taken)) (c .refused .ensures)
+returns c = rw (lt-leb _ largestExpiry (c .before .if1 .taken)) (c .refused .ensures)
 
 returns-2 : tie.Need-returns-2
 unfolding spec.timeLeftOf spec.timeLeftFound
-returns-2 c = rw (le-leb _ _ (c .before .before .if1 .left), lt-leb _ _ (c .before .if2 .taken)) (c .refused2 .ensures)
+returns-2 c = rw (le-leb _ largestExpiry (c .before .before .if1 .left), lt-leb _ spec.largestTime (c .before .if2 .taken)) (c .refused2 .ensures)
 
 returns-3 : tie.Need-returns-3
 unfolding spec.timeLeftOf spec.timeLeftFound
@@ -27,7 +28,7 @@ returns-3 c =
     let left = c .before .left in
     let second = c .before .before in
     let first = second .before in
-    rw (le-leb _ _ (first .if1 .left), le-leb _ _ (second .if2 .left))
+    rw (le-leb _ largestExpiry (first .if1 .left), le-leb _ spec.largestTime (second .if2 .left))
     (c .accepted .ensures
     ∙ ap {B = TimeLeft} (λ (z : ℤ). record { answer = Accepted; path = first .before .before .args .self; ms = z })
     (toZ-ofZ {w = w64} {z = left .result} (record { sfits = left .ok }) ∙ left .ensures))
