@@ -28,9 +28,17 @@ pub fn views(path: DataplanePath, bytes: &[u8], index: usize) {
     print::number(path.locate_info_field(bytes, index).path.expiry);
     print::number(path.locate_hop_field(bytes, index).path.expiry);
     print::number(path.segment(bytes, index).path.expiry);
-    print::number(path_expiry::segment_expiry_time(path, bytes, index).path.expiry);
+    print::number(
+        path_expiry::segment_expiry_time(path, bytes, index)
+            .path
+            .expiry,
+    );
     print::number(path_expiry::expiry_time(path, bytes).path.expiry);
-    print::number(path_expiry::time_left(path, bytes, index as u64).path.expiry);
+    print::number(
+        path_expiry::time_left(path, bytes, index as u64)
+            .path
+            .expiry,
+    );
     print::number(path_interfaces::interfaces_count(path, bytes).path.expiry);
     print::number(path_interfaces::interface(path, bytes, index).path.expiry);
 }

@@ -15,6 +15,8 @@ use Rattle.wire_encoding.proofs.Result.{same-value, held, stepped, refusing-ok,
 use Rattle.path_meta_header.specs.MetaHeader.{metaOf, infoFieldsCount, hopFieldsCount, pathLength, readMeta, infoFieldOffset, hopFieldOffset}
 use Rattle.path_meta_header.specs.declared.PathMetaHeader.{PathMetaHeader}
 use Rattle.path_meta_header.proofs.MetaHeader.{Sound, checked-sound, sound-checked}
+use Rattle.path_least_expiry.specs.Expiry.{pathExpiry, pathExpiryOrZero}
+use Rattle.path_least_expiry.proofs.There.{path-found}
 use Rattle.errors.specs.declared.packet_error.Decoded.the-variants as decoded
 use Rattle.errors.specs.declared.packet_error.DecodeError.{DecodeError}
 use Rattle.errors.specs.declared.path_error.Answer.the-variants as answer
@@ -150,7 +152,11 @@ module _ (bytes : List ℕ) {m : PathMetaHeader} where
       let header = ap (λ (r : Extent). r .path .«meta_header») (same-value (path .then)) ∙ same-value (read .then) in
       readable (by-record bytes (path .first) .0 ∙ ap ok header)
 
--- and so is one by its record
+-- it has fields, so its expiry is found
+pub expiry-found : (bytes : List ℕ) (m : PathMetaHeader) → Readable bytes m → pathExpiryOrZero bytes m ≡ pathExpiry bytes m
+expiry-found bytes m r = path-found bytes m (omega (arith, r .sound-meta .info)) (r .whole)
+
+-- one that is read by its record is readable too
 pub record-readable : (bytes : List ℕ) {path : StandardPath} → readRecord bytes ≡ ok path → Readable bytes (path .«meta_header»)
 record-readable bytes h = readable bytes (by-record bytes h .0)
 

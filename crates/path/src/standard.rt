@@ -1,7 +1,7 @@
 // The standard path: a meta header, info fields and hop fields, read from bytes.
 use errors::packet_error::DecodeError;
 use errors::packet_error::Decoded;
-use path_least_expiry::path_expiry;
+use path_least_expiry::path_expiry_or_zero;
 use path_meta_header::PathMetaHeader;
 ghost use mathlib.Core.Path.{_≡_};
 ghost use Prim.Native.Nat.{_≤_};
@@ -60,7 +60,7 @@ impl StandardPath {
         if bytes.len() < meta_header.encoded_path_length() {
             return PathRead::refused(DecodeError::PacketEmptyOrTruncated);
         }
-        let expiry = path_expiry(bytes, meta_header);
+        let expiry = path_expiry_or_zero(bytes, meta_header);
         PathRead::accepted(StandardPath {
             meta_header,
             expiry,

@@ -4,7 +4,7 @@ use errors::path_error::PathError;
 use path::dataplane::DataplanePath;
 use path::standard::StandardPath;
 use path::standard::time_left::TimeLeft;
-use path_least_expiry::segment_expiry;
+use path_least_expiry::segment_expiry_or_zero;
 ghost use mathlib.Core.Path.{_≡_};
 ghost use Rattle.wire_encoding.specs.Result.{refused};
 ghost use Rattle.errors.specs.declared.path_error.Answer.the-variants as answers;
@@ -58,7 +58,7 @@ pub fn segment_expiry_time(path: DataplanePath, bytes: &[u8], index: usize) -> E
     if meta_header.info_fields_count() <= index {
         return Expiry::refused(PathError::NoSuchField);
     }
-    Expiry::accepted(read.path, segment_expiry(bytes, meta_header, index))
+    Expiry::accepted(read.path, segment_expiry_or_zero(bytes, meta_header, index))
 }
 
 // The expiry of the path: the least of its segments'.

@@ -1,3 +1,4 @@
 pub mod Least
 pub mod Segments
 pub mod Kept
+pub mod There

@@ -1,8 +1,10 @@
 -- Expiry in ms: of a hop field, of a segment, of a path.
 use Prim.Native.Nat.{ℕ, zero, suc, _+_, _*_, _-_, _≤_, _<_, min}
+use mathlib.Core.Bool.{Bool, _&&_, cond}
 use mathlib.Core.List.{List}
-use lib.ListN.{getD}
-use Rattle.path_meta_header.specs.MetaHeader.{infoFieldsCount, firstHopField, segmentLength, infoStart, hopStart}
+use lib.ListN.{length, getD}
+use lib.Dec.{ltb, leb}
+use Rattle.path_meta_header.specs.MetaHeader.{infoFieldsCount, firstHopField, segmentLength, pathLength, infoStart, hopStart}
 use Rattle.path_meta_header.specs.declared.PathMetaHeader.{PathMetaHeader}
 use Rattle.path_fields.specs.Fields.{infoFieldAt, hopFieldAt, expiryTime}
 
@@ -37,7 +39,18 @@ largestExpiry = 4295053695000
 abbrev pub NoneAbove : Type 0
 NoneAbove = (bytes : List ℕ) (m : PathMetaHeader) → ((i : ℕ) → getD bytes i 0 < 256) → pathExpiry bytes m ≤ largestExpiry
 
--- WHAT THE LOOP HANDS ON
+-- WHAT THE CODE GOES BY
+
+-- segment k is there, and all fields of the path are among the bytes
+unfoldable pub isThere : List ℕ → PathMetaHeader → ℕ → Bool
+isThere bytes m k = ltb k (infoFieldsCount m) && leb (pathLength m) (length bytes)
+
+-- the same expiries, 0 where this is not so
+unfoldable pub segmentExpiryOrZero : List ℕ → PathMetaHeader → ℕ → ℕ
+segmentExpiryOrZero bytes m k = cond (isThere bytes m k) (segmentExpiry bytes m k) 0
+
+unfoldable pub pathExpiryOrZero : List ℕ → PathMetaHeader → ℕ
+pathExpiryOrZero bytes m = cond (isThere bytes m 0) (pathExpiry bytes m) 0
 
 -- the expiry byte of hop field j of a run of hop fields at `at`
 abbrev pub expTimeAt : List ℕ → ℕ → ℕ → ℕ

@@ -49,7 +49,7 @@ fn timestamp_at(bytes: &[u8], at: usize) -> u32
 }
 
 // The expiry of segment `k`, which is there: the least of its hop fields'.
-pub fn segment_expiry(bytes: &[u8], meta_header: PathMetaHeader, k: usize) -> u64
+fn segment_expiry(bytes: &[u8], meta_header: PathMetaHeader, k: usize) -> u64
     requires { ⌜ (k < meta.infoFieldsCount «meta_header») × (meta.pathLength «meta_header» ≤ length (now bytes)) ⌝ }
     ensures { λ r. ⌜ (r ≡ spec.segmentExpiry (now (bytes .entry)) «meta_header» k) × (r ≤ spec.largestExpiry) ⌝ }
 {
@@ -60,7 +60,7 @@ pub fn segment_expiry(bytes: &[u8], meta_header: PathMetaHeader, k: usize) -> u6
 }
 
 // The expiry of a path that was read: the least of its segments'.
-pub fn path_expiry(bytes: &[u8], meta_header: PathMetaHeader) -> u64
+fn path_expiry(bytes: &[u8], meta_header: PathMetaHeader) -> u64
     requires { ⌜ (0 < meta.infoFieldsCount «meta_header») × (meta.pathLength «meta_header» ≤ length (now bytes)) ⌝ }
     ensures { λ r. ⌜ (r ≡ spec.pathExpiry (now (bytes .entry)) «meta_header») × (r ≤ spec.largestExpiry) ⌝ }
 {
@@ -73,4 +73,34 @@ pub fn path_expiry(bytes: &[u8], meta_header: PathMetaHeader) -> u64
         least = lesser(least, next);
     }
     least
+}
+
+// Whether segment `k` is there, and all fields of the path are among the bytes.
+fn is_there(bytes: &[u8], meta_header: PathMetaHeader, k: usize) -> bool
+    ensures { λ r. ⌜ r ≡ spec.isThere (now (bytes .entry)) «meta_header» k ⌝ }
+{
+    if meta_header.info_fields_count() <= k {
+        return false;
+    }
+    meta_header.encoded_path_length() <= bytes.len()
+}
+
+// The expiry of segment `k`; 0 where it is not there.
+pub fn segment_expiry_or_zero(bytes: &[u8], meta_header: PathMetaHeader, k: usize) -> u64
+    ensures { λ r. ⌜ (r ≡ spec.segmentExpiryOrZero (now (bytes .entry)) «meta_header» k) × (r ≤ spec.largestExpiry) ⌝ }
+{
+    if is_there(bytes, meta_header, k) {
+        return segment_expiry(bytes, meta_header, k);
+    }
+    0
+}
+
+// The expiry of the path; 0 where its fields are not all there.
+pub fn path_expiry_or_zero(bytes: &[u8], meta_header: PathMetaHeader) -> u64
+    ensures { λ r. ⌜ (r ≡ spec.pathExpiryOrZero (now (bytes .entry)) «meta_header») × (r ≤ spec.largestExpiry) ⌝ }
+{
+    if is_there(bytes, meta_header, 0) {
+        return path_expiry(bytes, meta_header);
+    }
+    0
 }

@@ -3,6 +3,7 @@ use Prim.Native.Nat.{_<_}
 use native.Mathlib.Omega.{arith}
 use borrow.Author.Tests.{lt-ltb, le-ltb}
 use Rattle.path_meta_header.specs.MetaHeader.{infoFieldsCount}
+use Rattle.path_least_expiry.proofs.There.{segment-found}
 use Rattle.path.proofs.Reading.{answer-ok, answer-refused, record-is, standard-readable}
 use Rattle.path_expiry.specs.Expiry as spec
 use borrow.Author.Needs.{needs}
@@ -23,12 +24,6 @@ returns-2 c =
     let read = answer-ok _ _ (told .before .before .standard .ensures) (told .enum-told .given .1) in
     rw (read, ← count .info-fields-count .ensures .0, le-ltb _ _ (c .before .if1 .taken)) (c .refused2 .ensures)
 
-segment-expiry-requires : tie.Need-segment-expiry-requires
-segment-expiry-requires c κs =
-    let told = c .before .before .before in
-    let read = answer-ok _ _ (told .before .before .standard .ensures) (told .enum-told .given .1) in
-    (omega arith, standard-readable _ _ read .whole)
-
 returns-3 : tie.Need-returns-3
 unfolding spec.segmentExpiryIn spec.expiryFound
 returns-3 c =
@@ -39,11 +34,13 @@ returns-3 c =
     let header = call .result .path .«meta_header» in
     let index = told .before .before .before .before .args .index in
     let there : index < infoFieldsCount header = omega arith in
+    let read = answer-ok _ _ (call .ensures) accepted in
     rw (
-      answer-ok _ _ (call .ensures) accepted,
+      read,
       ← record-is _ _ (call .ensures) accepted,
       lt-ltb index (infoFieldsCount header) there,
-      ← c .before .segment-expiry .ensures .0,
+      ← segment-found _ _ _ there (standard-readable _ _ read .whole),
+      ← c .before .segment-expiry-or-zero .ensures .0,
     )
     (c .accepted .ensures)
 
@@ -55,6 +52,5 @@ segment-expiry-time-spec =
     returns
     (λ c. search needs) (λ c κs. search needs) (λ c κs. search needs)
     returns-2
-    segment-expiry-requires
-    (λ c κs. search needs)
+    (λ c κs. search needs) (λ c κs. search needs)
     returns-3)

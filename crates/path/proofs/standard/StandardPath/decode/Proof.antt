@@ -3,7 +3,7 @@ use borrow.Author.Tests.{le-leb, lt-leb}
 use mathlib.Core.Path.{_≡_}
 use native.Mathlib.Omega.{arith}
 use Rattle.wire_encoding.specs.Result.{ok}
-use Rattle.path.proofs.Reading.{readable}
+use Rattle.path.proofs.Reading.{readable, expiry-found}
 use Rattle.path_meta_header.proofs.MetaHeader.{meta-ok, meta-refused}
 use Rattle.path.specs.Standard as spec
 use borrow.Author.Needs.{needs}
@@ -38,14 +38,12 @@ read c =
     let header = meta-ok _ (told .before .before .decode .ensures) (told .enum-told .given .1) in
     rw (header, ← c .before .encoded-path-length .ensures .0, le-leb _ _ (c .if1 .left))
 
-path-expiry-requires : tie.Need-path-expiry-requires
-path-expiry-requires c κs = let path = readable _ (read c) in (omega (arith, path .sound-meta .info), path .whole)
-
 returns-3 : tie.Need-returns-3
 unfolding spec.readRecord spec.pathRead
 returns-3 c =
-    let stored = c .before .path-expiry .ensures in
-    (rw (read (c .before .before), ← stored .0) (c .accepted .ensures), rw (c .accepted .ensures) (stored .1))
+    let stored = c .before .path-expiry-or-zero .ensures in
+    let path = read (c .before .before) in
+    (rw (path, ← expiry-found _ _ (readable _ path), ← stored .0) (c .accepted .ensures), rw (c .accepted .ensures) (stored .1))
 
 pub decode-spec : {M : Type 1} → statement M
 decode-spec =
@@ -55,6 +53,5 @@ decode-spec =
     returns
     (λ c. search needs) (λ c κs. search needs) (λ c κs. search needs)
     returns-2
-    path-expiry-requires
-    (λ c κs. search needs)
+    (λ c κs. search needs) (λ c κs. search needs)
     returns-3)
