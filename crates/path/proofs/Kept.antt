@@ -2,7 +2,6 @@
 -- Assumes nothing.
 use Prim.Native.Nat.{ℕ, _≤_, _<_}
 use mathlib.Core.Path.{_≡_, refl, sym, ap, _∙_}
-use mathlib.Core.Bool.{Bool}
 use mathlib.Core.List.{List}
 use native.Mathlib.Omega.{arith}
 use lib.Dec.{ltb}
@@ -17,9 +16,16 @@ use Rattle.path_meta_header.specs.declared.PathMetaHeader.{PathMetaHeader}
 use Rattle.errors.specs.declared.path_error.PathError.{PathError}
 use Rattle.path_least_expiry.specs.Expiry.{pathExpiry}
 use Rattle.path_least_expiry.proofs.Kept.{expiry-within, expiry-flags}
-use Rattle.path.specs.Standard.{pathUnder}
-use Rattle.path.specs.Dataplane.{pathOf, pathLeft, standard, alerted, Fits, KeepsExpiry, AlertFlagsKeepExpiry}
+use Rattle.path.specs.Dataplane.{pathOf, standard, alerted, Fits, RecordFits, KeepsExpiry, AlertFlagsKeepExpiry}
 use Rattle.path.proofs.Reading.{Readable, record-read, path-of, standard-type, standard-readable}
+
+-- A PATH THAT WAS READ: its record fits
+
+fits : (bytes : List ℕ) (m : PathMetaHeader) → Readable bytes m → Fits bytes (pathOf 1 bytes)
+fits bytes m r = rw (path-of bytes m r) (record { read = record-read bytes m r; expires = refl })
+
+pub record-fits : RecordFits
+record-fits bytes m h = fits bytes m (standard-readable bytes 1 h)
 
 -- FROM ONE PATH THAT WAS READ TO ANOTHER
 
@@ -30,9 +36,7 @@ module _ (x y : List ℕ) (m n : PathMetaHeader) (r : Readable x m) (s : Readabl
 
   -- so a call that leaves the second keeps its promise
   pub keeps : (call : Result PathError (List ℕ)) → call ≡ ok y → KeepsExpiry x call
-  keeps call done left h =
-      rw (← same-value (sym done ∙ h), done)
-      (rw (path-of y n s) (record { read = record-read y n s; expires = refl }), path-expires)
+  keeps call done left h = rw (← same-value (sym done ∙ h), done) (fits y n s, path-expires)
     where
       path-expires : pathOf 1 y .expiry ≡ pathOf 1 x .expiry
       path-expires = rw (path-of y n s, path-of x m r) same

@@ -32,6 +32,7 @@ pub record Extent : Type 0 where
   pub path : StandardPath
   pub length : ℕ
 
+-- a path that is not looked into: its length alone
 abbrev pub unread : ℕ → Extent
 unread n = record { path = noPath; length = n }
 
@@ -77,6 +78,15 @@ metaHeaderOf bytes = orElse (standard 1 bytes) (metaOf 0)
 unfoldable pub pathAnswer : {A : Type 0} → StandardPath → Result PathError A → PathAnswer
 pathAnswer path r = record { answer = answerOf r; path = beside path r }
 
+-- "a record fitting the bytes it leaves": reading these bytes is accepted with that record, and its expiry is the rule's on them
+pub record Fits (left : List ℕ) (path : StandardPath) : Type 0 where
+  pub read : readRecord left ≡ ok path
+  pub expires : path .expiry ≡ pathExpiry left (path .«meta_header»)
+
+-- a theorem: so does the record that goes beside what is found of a standard path
+abbrev pub RecordFits : Type 0
+RecordFits = (bytes : List ℕ) (m : PathMetaHeader) → standard 1 bytes ≡ ok m → Fits bytes (pathOf 1 bytes)
+
 -- CALLS THAT WRITE: what the lent bytes then hold; a refusal changes nothing
 abbrev pub contents : Result PathError (List ℕ) → List ℕ → List ℕ
 contents r lent = orElse r lent
@@ -87,11 +97,6 @@ pathLeft type r = orElse (mapped (pathOf type) r) noPath
 
 unfoldable pub writtenAnswer : ℕ → Result PathError (List ℕ) → PathAnswer
 writtenAnswer type r = record { answer = answerOf r; path = pathLeft type r }
-
--- "a record fitting the bytes it leaves": reading these bytes is accepted with that record, and its expiry is the rule's on them
-pub record Fits (left : List ℕ) (path : StandardPath) : Type 0 where
-  pub read : readRecord left ≡ ok path
-  pub expires : path .expiry ≡ pathExpiry left (path .«meta_header»)
 
 -- what is promised of each call that writes, where a standard path is changed or written: the record fits, and the expiry is still that
 -- of the path that was read

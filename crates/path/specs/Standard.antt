@@ -39,6 +39,7 @@ pathUnder bytes m = record { «meta_header» = m; expiry = pathExpiry bytes m }
 abbrev pub noPath : StandardPath
 noPath = record { «meta_header» = metaOf 0; expiry = 0 }
 
+-- what reading finds is its record
 unfoldable pub readRecord : List ℕ → Result DecodeError StandardPath
 readRecord bytes = do
   m ← readPath bytes

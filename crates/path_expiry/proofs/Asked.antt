@@ -3,10 +3,8 @@
 use Prim.Native.Nat.{ℕ, _≤_}
 use mathlib.Core.Path.{_≡_, refl, ap}
 use mathlib.Core.List.{List}
-use native.Mathlib.Omega.{arith}
 use borrow.Author.Tests.{le-leb}
 use Rattle.wire_encoding.specs.Result.{Result, ok, refused, mapped, andThen}
-use Rattle.wire_encoding.proofs.Lists.{Bytes}
 use Rattle.path_meta_header.specs.declared.PathMetaHeader.{PathMetaHeader}
 use Rattle.errors.specs.declared.path_error.PathError.{PathError}
 use Rattle.path_least_expiry.specs.Expiry.{pathExpiry, largestExpiry}

@@ -7,14 +7,13 @@ use mathlib.Core.List.{List}
 use native.Mathlib.Omega.{arith}
 use lib.ListN.{getD, set}
 use lib.Seq.{getD-set-other}
-use Rattle.wire_encoding.specs.BigEndian.{bigEndian}
 use Rattle.wire_encoding.proofs.Lists.{bytes-of}
 use Rattle.wire_encoding.proofs.BigEndian.{number-by-getD, below}
 use Rattle.path_meta_header.specs.MetaHeader.{infoFieldsCount, hopFieldsCount, firstHopField, segmentLength, pathLength, infoStart, hopStart}
 use Rattle.path_meta_header.specs.declared.PathMetaHeader.{PathMetaHeader}
 use Rattle.path_meta_header.proofs.MetaHeader.{Sound, segment-within}
 use Rattle.path_fields.specs.Fields.{infoFieldAt, hopFieldAt, expiryOffset, expiryTime}
-use Rattle.path_least_expiry.specs.Expiry.{least, hopExpiry, segmentExpiry, pathExpiry, largestExpiry, NoneBefore, NoneAbove}
+use Rattle.path_least_expiry.specs.Expiry.{least, hopExpiry, segmentExpiry, pathExpiry, NoneBefore, NoneAbove}
 use Rattle.path_least_expiry.proofs.Least.{least-same, least-below}
 
 pub none-before : NoneBefore

@@ -1,17 +1,14 @@
 -- A move keeps the path's expiry, and so does a walk, move by move; the record that is handed back fits what is left.
 -- Assumes nothing.
-use Prim.Native.Nat.{ℕ, _+_}
-use mathlib.Core.Path.{_≡_, refl, sym, ap, _∙_}
+use Prim.Native.Nat.{ℕ}
+use mathlib.Core.Path.{refl, ap, _∙_}
 use mathlib.Core.Bool.{not}
 use mathlib.Core.List.{List}
 use native.Mathlib.Omega.{arith}
-use lib.ListN.{length}
 use borrow.Author.Tests.{eqb-false, not-true}
 use Rattle.wire_encoding.specs.Result.{ok, mapped}
 use Rattle.wire_encoding.proofs.Result.{held, stepped, mapped-ok}
 use Rattle.wire_encoding.proofs.Lists.{Bytes, bytes-of}
-use Rattle.path_meta_header.specs.MetaHeader.{hopFieldsCount}
-use Rattle.path_meta_header.specs.declared.PathMetaHeader.{PathMetaHeader}
 use Rattle.path.specs.Dataplane.{KeepsExpiry}
 use Rattle.path.proofs.Kept.{keeps}
 use Rattle.path_moves.specs.Moves.{Way, isLast, iterate, move, moved, moveBytes, movedMeta, walk, walkMoves, MovesKeepExpiry}

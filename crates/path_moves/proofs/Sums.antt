@@ -8,7 +8,7 @@ use native.Mathlib.Nat.{add-zero, add-suc}
 use native.Mathlib.Numerals.{add-one}
 use native.Mathlib.Omega.{arith}
 use lib.Bits.{bitXor}
-use lib.ListN.{getD, set}
+use lib.ListN.{set}
 use Rattle.wire_encoding.specs.BigEndian.{bigEndian, bytesOf}
 use Rattle.wire_encoding.proofs.BigEndian.{bytes-bytesOf}
 use Rattle.wire_encoding.proofs.Lists.{Bytes, bytes-of, bytes-set, bytes-sets}

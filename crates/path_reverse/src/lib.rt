@@ -22,7 +22,6 @@ ghost use Prim.Native.Nat.{_+_, _*_, _≤_};
 ghost use lib.ListN.{length, drop};
 ghost use lib.Seq.{sets};
 ghost use Rattle.path_meta_header.specs.Encoding.{metaFits, wordOf};
-ghost use Rattle.path_meta_header.specs.Reversal.{reversedMeta};
 ghost use Rattle.path_reverse.specs.Reverse as spec;
 
 // Copies the path to a destination of exactly its length. An empty path disregards its destination.

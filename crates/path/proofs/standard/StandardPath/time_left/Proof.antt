@@ -1,7 +1,6 @@
 -- `time_left` of a record meets its contract: the bound of the expiry, then that of the time. What is handed on is the signed number
 -- itself, since it fits.
 use mathlib.Core.Path.{ap, _∙_}
-use native.Mathlib.Omega.{arith}
 use borrow.Author.Tests.{le-leb, lt-leb}
 use lib.IntN.{ℤ}
 use mir.Syntax.{w64}
