@@ -30,8 +30,8 @@ use Rattle.path.specs.declared.dataplane.Located.{Located}
 use Rattle.path.specs.declared.standard.StandardPath.{StandardPath}
 use Rattle.path.specs.Standard.{readPath, pathUnder, noPath, readRecord, pathRead, beside}
 use Rattle.path.specs.Segment.{Fields, nowhere}
-use Rattle.path.specs.Dataplane.{Extent, unread, readStandard, readDataplane, dataplaneRead, pathOf, NoRecord, standard, metaHeaderOf, pathAnswer}
-use Rattle.path.specs.Dataplane.{infoFieldIn, hopFieldIn, segmentIn, located, alerted, Among, ViewsInside}
+use Rattle.path.specs.Dataplane.{Extent, unread, readStandard, readDataplane, dataplaneRead, pathOf, NoRecord, standard, metaHeaderOf}
+use Rattle.path.specs.Dataplane.{pathAnswer, infoFieldIn, hopFieldIn, segmentIn, located, alerted, Among, ViewsInside}
 use Rattle.path_meta_header.proofs.Segment as segments
 
 -- A RECORD THAT WAS READ
@@ -192,17 +192,17 @@ module _ (type : ℕ) (bytes : List ℕ) where
   pub standard-path : {m : PathMetaHeader} → standard type bytes ≡ ok m → pathOf type bytes ≡ pathUnder bytes m
   standard-path {m} h = rw (standard-type bytes type h) (path-of bytes m (standard-readable bytes type h))
 
+  -- its record is that of the path
+  pub record-is : {call : PathAnswer} → call ≡ pathAnswer (pathOf type bytes) (standard type bytes) → call .answer ≡ answer.Accepted
+      → call .path ≡ pathOf type bytes
+  record-is is h = answer-path (pathOf type bytes) (standard type bytes) is (metaOf 0) h
+
+  -- and holds the header that was read
   pub answer-ok : {call : PathAnswer} → call ≡ pathAnswer (pathOf type bytes) (standard type bytes) → call .answer ≡ answer.Accepted
       → standard type bytes ≡ ok (call .path .«meta_header»)
   answer-ok is h =
       let some = answer-value (pathOf type bytes) (standard type bytes) is (metaOf 0) h in
-      some
-      ∙ ap ok (ap (λ (p : StandardPath). p .«meta_header») (sym (standard-path some) ∙ sym (answer-path (pathOf type bytes) (standard type bytes) is (metaOf 0) h)))
-
-  -- and its record is that of the path
-  pub record-is : {call : PathAnswer} → call ≡ pathAnswer (pathOf type bytes) (standard type bytes) → call .answer ≡ answer.Accepted
-      → call .path ≡ pathOf type bytes
-  record-is is h = answer-path (pathOf type bytes) (standard type bytes) is (metaOf 0) h
+      some ∙ ap ok (ap (λ (p : StandardPath). p .«meta_header») (sym (standard-path some) ∙ sym (record-is is h)))
 
 -- WHERE THE PARTS LIE
 

@@ -14,10 +14,9 @@ use Rattle.path_moves.specs.Examples.{Computed, along, against, peered, 
 pub computed : Computed
 unfolding along against peered peeredOtherWay unpeered met reported steps bigEndian bytesOf room fields.infoFieldAt
     fields.hopFieldAt fields.expiryOffset fields.expiryTime expiry.least expiry.hopExpiry expiry.segmentExpiry expiry.pathExpiry
-    meta.firstHopField
-    meta.nthField meta.metaOf meta.infoFieldsCount meta.hopFieldsCount meta.segmentOf meta.pathLength meta.lengthsValid meta.infoValid meta.hopValid
-    meta.checked meta.readMeta standard.readPath standard.readRecord dataplane.readDataplane dataplane.dataplaneRead dataplane.pathOf dataplane.standard
-    dataplane.metaHeaderOf
+    meta.nthField meta.metaOf meta.infoFieldsCount meta.hopFieldsCount meta.segmentOf meta.firstHopField meta.pathLength
+    meta.lengthsValid meta.infoValid meta.hopValid meta.checked meta.readMeta
+    standard.readPath standard.readRecord dataplane.readDataplane dataplane.dataplaneRead dataplane.pathOf dataplane.standard dataplane.metaHeaderOf
     rules.ownerOf rules.spared rules.somePeering rules.peeringPath rules.peeringAllowed rules.movable
     moves.takesIn moves.moveBytes moves.isLast moves.move moves.moved moves.walkMoves moves.walk moves.walked moves.walkAnswer moves.infoOf
 computed = ((refl, refl), (refl, refl, refl), refl)

@@ -292,10 +292,11 @@ module _ (bytes : List ℕ) (m : PathMetaHeader) (can : spec.CanMove bytes m) wh
   pub expiry-moved : pathExpiry after left ≡ pathExpiry bytes m
   unfolding spec.movedMeta spec.atPosition
   expiry-moved =
+      let s = standing in
       expiry-lengths after m left refl
       ∙ expiry-same bytes after m
       (λ k l i a b. stays-beside bytes m i (λ e. omega arith) (λ e. omega arith) (λ e. omega arith))
-      (λ j l. stays-beside bytes m (meta.hopStart m j + 1) (λ e. omega arith) (λ e. omega (arith, standing .info)) (λ e. omega (arith, standing .info)))
+      (λ j l. stays-beside bytes m (meta.hopStart m j + 1) (λ e. omega arith) (λ e. omega arith) (λ e. omega arith))
       (able .path .sound-meta)
 
   -- so it is read with the header that the move leaves and the expiry that was stored

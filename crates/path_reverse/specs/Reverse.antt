@@ -47,7 +47,8 @@ reversedPath m bytes = reversedUnder (reversedMeta m) m bytes
 
 -- a theorem: it expires when the path does, for the least over the segments in opposite order is the least
 abbrev pub ReversedExpiry : Type 0
-ReversedExpiry = (bytes : List ℕ) (m : PathMetaHeader) → readPath bytes ≡ ok m → pathExpiry (reversedPath m bytes) (reversedMeta m) ≡ pathExpiry bytes m
+ReversedExpiry =
+    (bytes : List ℕ) (m : PathMetaHeader) → readPath bytes ≡ ok m → pathExpiry (reversedPath m bytes) (reversedMeta m) ≡ pathExpiry bytes m
 
 -- reversed twice: the path that was read, with its pointers at the start and its reserved bits zero
 abbrev pub ReversedTwice : Type 0

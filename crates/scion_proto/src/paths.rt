@@ -208,7 +208,8 @@ pub extern "C" fn scion_copy_path(path_type: u8, bytes: &[u8], dst: &mut [u8]) -
 // Writes the reply's path to a destination of exactly the path's length. An empty path disregards its destination.
 #[no_mangle]
 pub extern "C" fn scion_reverse_path(path_type: u8, bytes: &[u8], dst: &mut [u8]) -> ScionPathAnswer
-    ensures { λ r. ⌜ r ≡ spec.pathAnswerOut (dataplane.writtenAnswer «path_type» (reversal.reverse «path_type» (now (bytes .entry)) (now (dst .entry)))) ⌝ }
+    ensures { λ r. ⌜ r
+        ≡ spec.pathAnswerOut (dataplane.writtenAnswer «path_type» (reversal.reverse «path_type» (now (bytes .entry)) (now (dst .entry)))) ⌝ }
     ensures { λ _. ⌜ now (dst .exit)
         ≡ dataplane.contents (reversal.reverse «path_type» (now (bytes .entry)) (now (dst .entry))) (now (dst .entry)) ⌝ }
 {
