@@ -30,8 +30,10 @@ loop-again c = (
 returns : tie.Need-returns Inv-loop μ-loop
 unfolding spec.pathExpiry
 returns c =
-    let e : c .before .loop .k ≡ infoFieldsCount (c .before .before .before .before .before .args .meta-header) - 1 = omega arith in
-    (rw e at (c .before .loop .inv .1), search needs)
+    let end = c .before in
+    let start = end .before .before .before .before in
+    let e : end .loop .k ≡ infoFieldsCount (start .args .meta-header) - 1 = omega arith in
+    (rw e at (end .loop .inv .1), search needs)
 
 pub path-expiry-spec : {M : Type 1} → statement M
 path-expiry-spec =

@@ -36,13 +36,14 @@ unfolding movable pathAnswer
 returns-3 c =
     let allowed = c .before .before in
     let counted = allowed .before .before in
+    let told = counted .before .before in
     rw (
-      read (counted .before .before),
+      read told,
       ← counted .hop-fields-count .ensures .0,
       le-leb _ _ (allowed .before .if1 .left),
       ← allowed .peering-allowed .ensures,
       c .before .if2 .taken,
-      ← record-is _ _ (counted .before .before .before .before .standard .ensures) (counted .before .before .enum-told .given .1),
+      ← record-is _ _ (told .before .before .standard .ensures) (told .enum-told .given .1),
     )
     (c .accepted .ensures)
 

@@ -36,8 +36,8 @@ same-length c = c .before .loop .inv .0 .len
 returns : tie.Need-returns Inv-loop μ-loop
 unfolding walkMoves
 returns c =
-    let walk = c .before .loop .inv .0 in
-    (omega arith, stands _ _ _ _ walk (c .before .before .before .before .before .pre))
+    let end = c .before in
+    (omega arith, stands _ _ _ _ (end .loop .inv .0) (end .before .before .before .before .pre))
 
 same-length-2 : tie.Need-same-length-2 Inv-loop μ-loop
 same-length-2 c = c .before .before .loop .inv .0 .len
@@ -45,8 +45,8 @@ same-length-2 c = c .before .before .loop .inv .0 .len
 returns-2 : tie.Need-returns-2 Inv-loop μ-loop
 unfolding walkMoves
 returns-2 c =
-    let walk = c .before .before .loop .inv .0 in
-    (omega arith, stands _ _ _ _ walk (c .before .before .before .before .before .before .pre))
+    let end = c .before .before in
+    (omega arith, stands _ _ _ _ (end .loop .inv .0) (end .before .before .before .before .pre))
 
 pub steps-spec : {M : Type 1} → statement M
 steps-spec =
