@@ -83,7 +83,7 @@ pub record Fits (left : List ℕ) (path : StandardPath) : Type 0 where
   pub read : readRecord left ≡ ok path
   pub expires : path .expiry ≡ pathExpiry left (path .«meta_header»)
 
--- a theorem: so does the record that goes beside what is found of a standard path
+-- a theorem: the record of a standard path that was read, which goes beside all that is found of it, fits its bytes
 abbrev pub RecordFits : Type 0
 RecordFits = (bytes : List ℕ) (m : PathMetaHeader) → standard 1 bytes ≡ ok m → Fits bytes (pathOf 1 bytes)
 
