@@ -15,8 +15,8 @@ use Rattle.path_meta_header.specs.MetaHeader.{metaOf, hopFieldsCount, pathLengt
 use Rattle.path_meta_header.specs.declared.PathMetaHeader.{PathMetaHeader}
 use Rattle.errors.specs.declared.path_error.PathError.{PathError}
 use Rattle.path_least_expiry.specs.Expiry.{pathExpiry}
-use Rattle.path_least_expiry.proofs.Kept.{expiry-within, expiry-flags}
-use Rattle.path.specs.Dataplane.{pathOf, standard, alerted, Fits, RecordFits, KeepsExpiry, AlertFlagsKeepExpiry}
+use Rattle.path_least_expiry.proofs.Kept.{none-below, expiry-within, expiry-flags}
+use Rattle.path.specs.Dataplane.{pathOf, standard, alerted, Fits, RecordFits, RecordExpires, KeepsExpiry, AlertFlagsKeepExpiry}
 use Rattle.path.proofs.Reading.{Readable, record-read, path-of, standard-type, standard-readable}
 
 -- A PATH THAT WAS READ: its record fits
@@ -26,6 +26,9 @@ fits bytes m r = rw (path-of bytes m r) (record { read = record-read bytes m r; 
 
 pub record-fits : RecordFits
 record-fits bytes m h = fits bytes m (standard-readable bytes 1 h)
+
+pub record-expires : RecordExpires
+record-expires bytes m h = rw (path-of bytes m (standard-readable bytes 1 h)) (none-below bytes m)
 
 -- FROM ONE PATH THAT WAS READ TO ANOTHER
 

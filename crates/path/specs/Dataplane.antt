@@ -15,7 +15,7 @@ use Rattle.errors.specs.Errors.{decodedOf, answerOf}
 use Rattle.errors.specs.declared.packet_error.DecodeError.{DecodeError}
 use Rattle.errors.specs.declared.path_error.PathError.{PathError}
 use Rattle.errors.specs.declared.path_error.PathError.the-variants.{Decode, NoSuchField}
-use Rattle.path_least_expiry.specs.Expiry.{pathExpiry}
+use Rattle.path_least_expiry.specs.Expiry.{pathExpiry, leastExpiry}
 use Rattle.path.specs.Standard.{noPath, readRecord, beside}
 use Rattle.path.specs.Segment.{Fields, segmentAt, nowhere}
 use Rattle.path.specs.declared.standard.StandardPath.{StandardPath}
@@ -86,6 +86,10 @@ pub record Fits (left : List ℕ) (path : StandardPath) : Type 0 where
 -- a theorem: the record of a standard path that was read, which goes beside all that is found of it, fits its bytes
 abbrev pub RecordFits : Type 0
 RecordFits = (bytes : List ℕ) (m : PathMetaHeader) → standard 1 bytes ≡ ok m → Fits bytes (pathOf 1 bytes)
+
+-- a theorem: it has an expiry, so that a stored 0 is of no standard path
+abbrev pub RecordExpires : Type 0
+RecordExpires = (bytes : List ℕ) (m : PathMetaHeader) → standard 1 bytes ≡ ok m → leastExpiry ≤ pathOf 1 bytes .expiry
 
 -- CALLS THAT WRITE: what the lent bytes then hold; a refusal changes nothing
 abbrev pub contents : Result PathError (List ℕ) → List ℕ → List ℕ

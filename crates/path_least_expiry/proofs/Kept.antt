@@ -13,8 +13,8 @@ use Rattle.path_meta_header.specs.MetaHeader.{infoFieldsCount, hopFieldsCount, 
 use Rattle.path_meta_header.specs.declared.PathMetaHeader.{PathMetaHeader}
 use Rattle.path_meta_header.proofs.MetaHeader.{Sound, segment-within}
 use Rattle.path_fields.specs.Fields.{infoFieldAt, hopFieldAt, expiryOffset, expiryTime}
-use Rattle.path_least_expiry.specs.Expiry.{least, hopExpiry, segmentExpiry, pathExpiry, NoneBefore, NoneAbove}
-use Rattle.path_least_expiry.proofs.Least.{least-same, least-below}
+use Rattle.path_least_expiry.specs.Expiry.{least, hopExpiry, segmentExpiry, pathExpiry, leastExpiry, NoneBefore, NoneBelow, NoneAbove}
+use Rattle.path_least_expiry.proofs.Least.{least-same, least-below, least-above}
 
 pub none-before : NoneBefore
 unfolding pathExpiry segmentExpiry
@@ -24,6 +24,13 @@ none-before bytes m k j l h =
       least-below (segmentExpiry bytes m) (infoFieldsCount m - 1) k (omega arith),
       least-below (hopExpiry bytes m k) (segmentLength m k - 1) j (omega arith),
     )
+
+-- every hop field of every segment has at least one step of 337,500 ms
+pub none-below : NoneBelow
+unfolding pathExpiry segmentExpiry hopExpiry expiryTime expiryOffset
+none-below bytes m =
+    least-above (segmentExpiry bytes m) (infoFieldsCount m - 1) leastExpiry
+    (λ k. least-above (hopExpiry bytes m k) (segmentLength m k - 1) leastExpiry (λ j. omega arith))
 
 -- the first hop field of the first segment is bounded
 pub none-above : NoneAbove

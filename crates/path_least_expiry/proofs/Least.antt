@@ -26,6 +26,12 @@ least-below f (suc last) j h =
     by-lt j (suc last) (λ l. omega (arith, least-below f last j (omega arith)))
     (λ l. let e : j ≡ suc last = omega arith in rw e (omega arith))
 
+-- and what is above none of them is not above it
+pub least-above : (f : ℕ → ℕ) (last bound : ℕ) → ((j : ℕ) → bound ≤ f j) → bound ≤ least f last
+unfolding least
+least-above f zero bound h = h 0
+least-above f (suc last) bound h = omega (arith, least-above f last bound h, h (suc last))
+
 -- IN OPPOSITE ORDER
 
 min-assoc : (a b c : ℕ) → min (min a b) c ≡ min a (min b c)

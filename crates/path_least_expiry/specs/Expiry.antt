@@ -31,6 +31,14 @@ abbrev pub NoneBefore : Type 0
 NoneBefore =
     (bytes : List ℕ) (m : PathMetaHeader) (k j : ℕ) → k < infoFieldsCount m → j < segmentLength m k → pathExpiry bytes m ≤ hopExpiry bytes m k j
 
+-- the least expiry that a hop field can have: timestamp 0 and expiry byte 0
+abbrev pub leastExpiry : ℕ
+leastExpiry = 337500
+
+-- a theorem: none is below it
+abbrev pub NoneBelow : Type 0
+NoneBelow = (bytes : List ℕ) (m : PathMetaHeader) → leastExpiry ≤ pathExpiry bytes m
+
 -- the largest expiry that a hop field can have: the largest timestamp and the largest expiry byte
 abbrev pub largestExpiry : ℕ
 largestExpiry = 4295053695000
