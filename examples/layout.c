@@ -21,6 +21,7 @@ SIZE(ScionPart, 16); AT(ScionPart, start, 0); AT(ScionPart, len, 8);
 SIZE(ScionHost, 20); AT(ScionHost, kind, 0); AT(ScionHost, service, 2); AT(ScionHost, bytes, 4);
 SIZE(ScionPathAnswer, 24); PATH_FIRST(ScionPathAnswer);
 SIZE(ScionPathRead, 32); PATH_FIRST(ScionPathRead); AT(ScionPathRead, length, 24);
+SIZE(ScionWrittenPath, 32); PATH_FIRST(ScionWrittenPath); AT(ScionWrittenPath, length, 24);
 SIZE(ScionInfoField, 40); PATH_FIRST(ScionInfoField); AT(ScionInfoField, start, 24); AT(ScionInfoField, flags, 32);
 AT(ScionInfoField, reserved, 33); AT(ScionInfoField, accumulator, 34); AT(ScionInfoField, timestamp, 36);
 SIZE(ScionHopField, 48); PATH_FIRST(ScionHopField); AT(ScionHopField, start, 24); AT(ScionHopField, flags, 32);
@@ -79,8 +80,16 @@ static bool is_host(ScionHost h, unsigned kind, unsigned service, const uint8_t 
     return h.kind == kind && h.service == service && memcmp(h.bytes, all, 16) == 0;
 }
 
+/* Whether all of these bytes are EE. */
+static bool are_ee(const uint8_t *bytes, size_t n) {
+    for (size_t i = 0; i < n; i++)
+        if (bytes[i] != 0xEE)
+            return false;
+    return true;
+}
+
 int main(void) {
-    static uint8_t b[1000], path[1000], dst[1000];
+    static uint8_t b[1000], path[1000], dst[2304];
     size_t len = build(path, 1, 2, 3, 2, 4);
     ScionAnswer a;
 
@@ -116,10 +125,30 @@ int main(void) {
     CHECK(ok(alerted.answer, alerted.path, 5) && b[76] == 0x8E);
     alerted = scion_set_egress_router_alert(1, b, len, 4, true);
     CHECK(ok(alerted.answer, alerted.path, 5) && b[76] == 0x8F);
-    ScionPathAnswer copied = scion_copy_path(1, path, len, dst, len);
-    CHECK(ok(copied.answer, copied.path, 4) && memcmp(dst, path, len) == 0);
-    ScionPathAnswer reversed = scion_reverse_path(1, path, len, dst, len);
-    CHECK(reversed.answer.number == 0 && is_record(reversed.path, 0, 0, 0, 3, 2, 1, first_expiry));
+
+    /* Copies and reversals: the path at the front of a longer destination, and no other byte; a byte after the path is no part of it. */
+    memset(dst, 0xEE, sizeof dst);
+    path[len] = 0x77;
+    ScionWrittenPath copied = scion_copy_path(1, path, len + 1, dst, sizeof dst);
+    CHECK(ok(copied.answer, copied.path, 4) && copied.length == len && memcmp(dst, path, len) == 0);
+    CHECK(are_ee(dst + len, sizeof dst - len));
+    memset(dst, 0xEE, sizeof dst);
+    ScionWrittenPath reversed = scion_reverse_path(1, path, len + 1, dst, sizeof dst);
+    CHECK(reversed.answer.number == 0 && is_record(reversed.path, 0, 0, 0, 3, 2, 1, first_expiry) && reversed.length == len);
+    CHECK(dst[4] == 0xA4 && memcmp(dst + 28, path + 88, 12) == 0 && memcmp(dst + 88, path + 28, 12) == 0);
+    CHECK(are_ee(dst + len, sizeof dst - len));
+    CHECK(scion_copy_path(1, path, len, dst, len).length == len && scion_reverse_path(1, path, len, dst, len).length == len);
+    memset(dst, 0xEE, sizeof dst);
+    copied = scion_copy_path(1, path, len, dst, len - 1);
+    CHECK(copied.answer.number == SCION_DESTINATION_SIZE && is_zero(copied.path) && copied.length == 0);
+    reversed = scion_reverse_path(1, path, len, dst, len - 1);
+    CHECK(reversed.answer.number == SCION_DESTINATION_SIZE && is_zero(reversed.path) && reversed.length == 0);
+    CHECK(scion_copy_path(7, path, 3, dst, 2).answer.number == SCION_DESTINATION_SIZE);
+    copied = scion_copy_path(SCION_PATH_EMPTY, path, len, dst, sizeof dst);
+    CHECK(copied.answer.number == 0 && is_zero(copied.path) && copied.length == 0 && are_ee(dst, sizeof dst));
+    reversed = scion_reverse_path(7, path, 3, dst, 5);
+    CHECK(reversed.answer.number == 0 && is_zero(reversed.path) && reversed.length == 3 && memcmp(dst, path, 3) == 0
+        && are_ee(dst + 3, sizeof dst - 3));
 
     /* The calls on a record: of one that was handed back, and of one made by hand, which comes back as it was given. */
     ScionPath made = {0xF1, 0xF2, 0xF3, {0xF4, 0xF5, 0xF6}, UINT64_MAX};
@@ -140,7 +169,7 @@ int main(void) {
     /* No expiry: the record of other types and of a refusal is all zero. */
     CHECK(is_zero(scion_read_path(SCION_PATH_EMPTY, path, len).path) && is_zero(scion_read_path(2, path, len).path));
     CHECK(is_zero(scion_read_path(1, path, len - 1).path) && is_zero(scion_hop_field(1, path, len, 6).path));
-    CHECK(is_zero(scion_copy_path(1, path, len, dst, len + 1).path) && is_zero(scion_copy_path(2, path, len, dst, len).path));
+    CHECK(is_zero(scion_copy_path(2, path, len, dst, len).path) && is_zero(scion_reverse_path(2, path, len, dst, len).path));
 
     /* Headers: an IPv6 destination, a service as source. They are written, and read back as a packet. */
     ScionHost to = {SCION_HOST_IPV6, 0, {1, 2, 3, 4, 5, 6, 7, 8, 9, 10, 11, 12, 13, 14, 15, 16}};
@@ -183,7 +212,7 @@ int main(void) {
     CHECK(scion_read_path(1, b, sizeof b).answer.number == SCION_HOP_POINTER);
     CHECK(scion_hop_field(1, path, len, 6).answer.number == SCION_NO_SUCH_FIELD);
     CHECK(scion_expiry(SCION_PATH_EMPTY, path, len).answer.number == SCION_NO_SUCH_FIELD);
-    CHECK(scion_copy_path(1, path, len, dst, len + 1).answer.number == SCION_DESTINATION_SIZE);
+    CHECK(scion_copy_path(1, path, len, dst, len - 1).answer.number == SCION_DESTINATION_SIZE);
     CHECK(scion_time_left(1, path, len, 9000000000001).answer.number == SCION_NUMBER_TOO_WIDE);
     len = build(b, 33, 32, 0, 0, 0);
     CHECK(scion_move(1, b, len).answer.number == SCION_TOO_MANY_HOP_FIELDS);

@@ -17,8 +17,9 @@ static const uint16_t listed[] = {1, 2, 3, 4, 5, 7};
 static const int64_t flight = 60000;
 static const uint8_t payload[4] = {'h', 'e', 'r', 'e'};
 
-/* Headers, and so the path in them, have at most 4 * 255 bytes; a payload has at most 65,535. */
-enum { HEADERS = 1020, PACKET = HEADERS + 65535 };
+/* Headers, and so the path in them, have at most 4 * 255 bytes; a payload has at most 65,535. The radio driver lends buffers of one
+ * size, whatever is put there. */
+enum { HEADERS = 1020, PACKET = HEADERS + 65535, DRIVER_BUFFER = 2304 };
 
 static const char *const meaning[] = {
     "accepted",
@@ -95,15 +96,16 @@ static bool has_arrived(ScionPath path) {
     return path.current_hop_field + 1 == lengths[0] + lengths[1] + lengths[2];
 }
 
-/* The answer to a packet that has arrived: the same path back, from its destination to its source. */
+/* The answer to a packet that has arrived: the same path back, from its destination to its source. The path is the front of the
+ * driver's buffer, as many bytes as the call says, and that front is what is sent. */
 static void reply_to(const ScionPacket *packet, const uint8_t *path) {
-    static uint8_t reply_path[HEADERS], reply[HEADERS + sizeof payload];
-    size_t path_len = packet->path_part.len;
-    accept("reply's path", scion_reverse_path(packet->path_type, path, path_len, reply_path, path_len).answer);
+    static uint8_t buffer[DRIVER_BUFFER], reply[HEADERS + sizeof payload];
+    ScionWrittenPath turned = scion_reverse_path(packet->path_type, path, packet->path_part.len, buffer, sizeof buffer);
+    accept("reply's path", turned.answer);
     ScionHeaders headers = scion_new_headers(packet->source_ia, packet->source, packet->destination_ia, packet->destination,
-                                             packet->path_type, path_len, packet->next_header, sizeof payload, packet->flow_id);
-    size_t len = scion_headers_length(headers, path_len);
-    accept("reply", scion_write_headers(headers, reply_path, path_len, reply, len));
+                                             packet->path_type, turned.length, packet->next_header, sizeof payload, packet->flow_id);
+    size_t len = scion_headers_length(headers, turned.length);
+    accept("reply", scion_write_headers(headers, buffer, turned.length, reply, len));
     memcpy(reply + len, payload, sizeof payload);
     printf("reply:");
     for (size_t i = 0; i < len + sizeof payload; i++)

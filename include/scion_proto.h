@@ -27,7 +27,7 @@
 #include <stdint.h>
 
 /* Raised whenever a struct or a call changes. Header and archive have to be of one commit; examples/layout.c checks that they agree. */
-#define SCION_PROTO_VERSION 2
+#define SCION_PROTO_VERSION 3
 
 #ifdef __cplusplus
 extern "C" {
@@ -44,7 +44,7 @@ enum {
     SCION_HOP_POINTER = 6,          /* hop pointer not under the number of hop fields, or in another segment */
     SCION_LEFT_OVER_BYTES = 7,      /* bytes between the path and the end of the header */
     SCION_NO_SUCH_FIELD = 8,        /* no such info field, segment, hop field or interface, or not a standard path */
-    SCION_DESTINATION_SIZE = 9,     /* destination not of the exact size */
+    SCION_DESTINATION_SIZE = 9,     /* destination not of the exact size; shorter than the path where it is copied or reversed */
     SCION_NUMBER_TOO_WIDE = 10,     /* a number wider than its field, or a time above SCION_MAX_NOW or SCION_MAX_EXPIRY */
     SCION_PAYLOAD_TOO_LARGE = 11,   /* payload above 65,535 bytes */
     SCION_HEADER_TOO_LARGE = 12,    /* header length factor above 255 */
@@ -132,6 +132,13 @@ typedef struct {
     ScionPath path;
     size_t length;
 } ScionPathRead;
+
+/* A path that was written: the first `length` bytes of the destination, 0 for an empty path and on a refusal. */
+typedef struct {
+    ScionAnswer answer;
+    ScionPath path;
+    size_t length;
+} ScionWrittenPath;
 
 /* An info field and where it starts; `timestamp` in seconds since 1970. */
 typedef struct {
@@ -273,11 +280,14 @@ ScionPathAnswer scion_set_egress_router_alert(uint8_t path_type, uint8_t *bytes,
 ScionPathAnswer scion_move(uint8_t path_type, uint8_t *bytes, size_t len);
 ScionWalk scion_walk(uint8_t path_type, uint8_t *bytes, size_t len, size_t limit);
 
-/* A path copied, or reversed, into a destination of its exact length (ScionPathRead's `length`; all bytes of an opaque path). An
- * empty path writes nothing, and its destination may have any size. The reply's path is the reverse of the path of a packet that has
- * arrived: walk a copy to its end first where it has not. It expires when the path does. bytes and dst must not overlap. */
-ScionPathAnswer scion_copy_path(uint8_t path_type, const uint8_t *bytes, size_t len, uint8_t *dst, size_t dst_len);
-ScionPathAnswer scion_reverse_path(uint8_t path_type, const uint8_t *bytes, size_t len, uint8_t *dst, size_t dst_len);
+/* A path copied, or reversed, to the front of a destination of at least its length (ScionPathRead's `length`; all bytes of an opaque
+ * path); 9 for a shorter one. A fixed buffer will do: 2,304 bytes have room for every standard path, which has 2,296 at most. The
+ * answer's `length` says how many bytes of the destination are the path now: hand on these, and not the whole buffer. The bytes
+ * behind them stay as they are. An empty path writes nothing, and its destination may have any size. The reply's path is the reverse
+ * of the path of a packet that has arrived: walk a copy to its end first where it has not. It expires when the path does. bytes and
+ * dst must not overlap. */
+ScionWrittenPath scion_copy_path(uint8_t path_type, const uint8_t *bytes, size_t len, uint8_t *dst, size_t dst_len);
+ScionWrittenPath scion_reverse_path(uint8_t path_type, const uint8_t *bytes, size_t len, uint8_t *dst, size_t dst_len);
 
 /* Writing: the headers of a path of `path_len` bytes with version, traffic class and reserved 0 and the factor that follows from
  * the lengths; how many bytes they take with a path, SIZE_MAX where no number can say it; and the bytes themselves, path included,

@@ -247,7 +247,8 @@ impl Checker {
     pub fn copy_path(&mut self, input: Input, oracle: &Oracle, size: usize) {
         self.dst.set_filled(0xee, size);
         let expected = oracle.copy_path(self.dst.expected_mut());
-        let answer = calls::copy_path(input.path_type, self.source.bytes(), self.dst.bytes_mut());
+        let mut answer = calls::copy_path(input.path_type, self.source.bytes(), self.dst.bytes_mut());
+        plant::front(&self.plant, Call::CopyPath, &mut answer, self.dst.bytes_mut());
         self.destined(Call::CopyPath, input, size, expected, answer);
     }
 
@@ -255,7 +256,8 @@ impl Checker {
     pub fn reverse_path(&mut self, input: Input, oracle: &Oracle, size: usize) {
         self.dst.set_filled(0xee, size);
         let expected = oracle.reverse_path(self.dst.expected_mut());
-        let answer = calls::reverse_path(input.path_type, self.source.bytes(), self.dst.bytes_mut());
+        let mut answer = calls::reverse_path(input.path_type, self.source.bytes(), self.dst.bytes_mut());
+        plant::front(&self.plant, Call::ReversePath, &mut answer, self.dst.bytes_mut());
         self.destined(Call::ReversePath, input, size, expected, answer);
     }
 

@@ -2,9 +2,10 @@
 //!
 //! The claim is checked from definitions of document 01 alone: accumulators by the path begun with, hop field bytes,
 //! entry and exit interfaces, counts and what the ends hold. Beside it, every record that an accepted call hands back has
-//! the expiry of the path begun with (request 2026-01).
+//! the expiry of the path begun with (request 2026-01). At an arrival the end lends a destination of any size, and holds
+//! the front alone (request 2026-08).
 
-use scion_proto::{Answered, PathAnswer, calls};
+use scion_proto::{Answered, WrittenPath, calls};
 
 use crate::check::Checker;
 use crate::model::{self, Shape};
@@ -99,8 +100,9 @@ fn event(random: &mut Random, state: &State, begun: &Begun) -> Event {
         7..10 => Event::Walk(packet, random.pick(&[0, 1, 2, 3, begun.shape.hop_fields, usize::MAX])),
         10 => Event::Loss(packet),
         11 => Event::Doubling(packet),
-        12 => Event::Arrival(packet, random.pick(&[0, exact - 1, exact + 1])),
-        _ => Event::Arrival(packet, exact),
+        12 => Event::Arrival(packet, random.below(exact)),
+        13 => Event::Arrival(packet, random.between(exact, shapes::DRIVER_BUFFER)),
+        _ => Event::Arrival(packet, random.pick(&shapes::sizes(exact))),
     }
 }
 
@@ -123,12 +125,14 @@ pub fn random_list(checker: &mut Checker, random: &mut Random) {
     round_trips(checker, &mut state, &begun, &mut list);
 }
 
-/// Two trips there and back at the list's end, so that arrivals take place in every list.
+/// Two trips there and back at the list's end, so that arrivals take place in every list: each first into a destination
+/// that lacks a byte, then into one with room.
 fn round_trips(checker: &mut Checker, state: &mut State, begun: &Begun, list: &mut Vec<Event>) {
-    for end in [FIRST, OTHER, FIRST, OTHER] {
+    let (exact, longest) = (begun.bytes.len(), shapes::DRIVER_BUFFER);
+    for (end, size) in [(FIRST, exact + 1), (OTHER, longest), (FIRST, longest), (OTHER, exact)] {
         let last = state.packets.len();
-        let exact = begun.bytes.len();
-        for event in [Event::Send(end), Event::Walk(last, usize::MAX), Event::Arrival(last, exact)] {
+        let arrivals = [exact - 1, size].map(|size| Event::Arrival(last, size));
+        for event in [Event::Send(end), Event::Walk(last, usize::MAX)].into_iter().chain(arrivals) {
             list.push(event);
             happen(checker, state, begun, event, list);
             hold(checker, state, begun, list);
@@ -214,7 +218,8 @@ fn walked(checker: &mut Checker, begun: &Begun, packet: &mut Packet, limit: usiz
     walk.moves
 }
 
-/// An arrival at the last hop field, into a destination of any size.
+/// An arrival at the last hop field: the packet is turned into a destination of any size that the end lends, and the end
+/// then holds the front alone. A shorter one than the path is refused, and nothing changes.
 fn arrive(checker: &mut Checker, state: &mut State, begun: &Begun, at: usize, size: usize, list: &[Event]) {
     let packet = &state.packets[at];
     if usize::from(packet.bytes[0] & 63) + 1 != begun.shape.hop_fields {
@@ -222,30 +227,32 @@ fn arrive(checker: &mut Checker, state: &mut State, begun: &Begun, at: usize, si
     }
     let (to, count) = (packet.to, packet.count);
     let mut dst = vec![0x5c; size];
-    let answer = turned(checker, &packet.bytes, &mut dst);
-    let is_exact = size == begun.bytes.len();
-    let expected = if is_exact { 0 } else { 9 };
-    claim(checker, Call::ReversePath, begun, list, answer.answer.number == expected, "9 just at a wrong size");
-    if answer.answer.number != 0 {
-        let is_untouched = dst.iter().all(|byte| *byte == 0x5c);
-        claim(checker, Call::ReversePath, begun, list, is_untouched, "a refused turn writes nothing");
+    let written = turned(checker, &packet.bytes, &mut dst);
+    let length = begun.bytes.len();
+    let (number, front) = if size < length { (9, 0) } else { (0, length) };
+    claim(checker, Call::ReversePath, begun, list, written.answer.number == number, "9 just for a shorter destination");
+    claim(checker, Call::ReversePath, begun, list, written.length == front, "a turn is as long as B, 0 where refused");
+    let is_untouched = dst[front..].iter().all(|byte| *byte == 0x5c);
+    claim(checker, Call::ReversePath, begun, list, is_untouched, "only the front is written, nothing where refused");
+    if written.answer.number != 0 {
         return;
     }
     claim(checker, Call::ReversePath, begun, list, count + 1 == begun.shape.hop_fields, "an arrival took N - 1 moves");
-    let is_kept = answer.path.expiry == begun.expiry;
+    let is_kept = written.path.expiry == begun.expiry;
     claim(checker, Call::ReversePath, begun, list, is_kept, "a turn leaves the expiry as it was");
     state.has_arrived |= to == OTHER;
-    state.held[to] = Some(dst);
+    state.held[to] = Some(model::held(&dst, written.length));
     state.packets.remove(at);
 }
 
 /// A turn by the library.
-fn turned(checker: &mut Checker, bytes: &[u8], dst: &mut [u8]) -> PathAnswer {
-    let mut answer = calls::reverse_path(1, bytes, dst);
-    plant::lent(&checker.plant, Call::ReversePath, answer.answer, dst);
-    plant::answer(&checker.plant, Call::ReversePath, &mut answer);
-    checker.tally.count(Call::ReversePath, answer.answer(), Source::Model);
-    answer
+fn turned(checker: &mut Checker, bytes: &[u8], dst: &mut [u8]) -> WrittenPath {
+    let mut written = calls::reverse_path(1, bytes, dst);
+    plant::front(&checker.plant, Call::ReversePath, &mut written, dst);
+    plant::lent(&checker.plant, Call::ReversePath, written.answer, dst);
+    plant::answer(&checker.plant, Call::ReversePath, &mut written);
+    checker.tally.count(Call::ReversePath, written.answer(), Source::Model);
+    written
 }
 
 /// The claim on what the ends hold and on every packet on the way.

@@ -336,25 +336,40 @@ fn sample_hop_fields(bytes: &[u8]) -> usize {
 
 /// Alert flags, copies and turns.
 fn changed(random: &mut Random, subject: &mut Subject) {
-    subject.note("Alert flags, copies and turns; a destination of another size, at which the Rust panics, gets 9.");
+    subject.note(
+        "Alert flags, copies and turns: the path alone, at the front of a longer destination; a shorter one gets 9.",
+    );
     for bytes in samples(random) {
         let count: usize = sample_hop_fields(&bytes);
-        let longer = word(&[&bytes[..], &[0xee]].concat());
+        let longer = word(&[&bytes[..], &[0x77]].concat());
         for (flag, on) in [(0, 0), (0, 1), (1, 0), (1, 1)] {
             subject.call(format!("alert 1 {longer} {} {flag} {on}", random.below(count)));
         }
         subject.call(format!("alert 1 {longer} {count} 1 1"));
-        for size in [bytes.len(), bytes.len() - 1, bytes.len() + 1, 0] {
+        for size in [bytes.len(), bytes.len() - 1, bytes.len() + 1, bytes.len() + 2, 0] {
             let dst = word(&vec![0xee; size]);
             subject.call(format!("copy 1 {longer} {dst}"));
             subject.call(format!("turn 1 {longer} {dst}"));
         }
     }
-    for (path_type, size) in [(0, 0), (0, 5), (7, 2), (7, 3), (7, 4)] {
-        let dst = word(&vec![0xee; size]);
-        subject.call(format!("copy {path_type} 010203 {dst}"));
-        subject.call(format!("turn {path_type} 010203 {dst}"));
+    for path_type in [0, 2, 7, 255] {
+        for (bytes, size) in [("010203", 0), ("010203", 2), ("010203", 3), ("010203", 4), ("010203", 5), ("-", 1)] {
+            let dst = word(&vec![0xee; size]);
+            subject.call(format!("copy {path_type} {bytes} {dst}"));
+            subject.call(format!("turn {path_type} {bytes} {dst}"));
+        }
     }
+    subject.note("Into the fixed buffer that a radio driver lends.");
+    let bytes = word(&[&sample([2, 0, 0], 1, 1, 0)[..], &[0x77]].concat());
+    for path_type in [0, 1, 2, 7, 255] {
+        subject.call(format!("copy {path_type} {bytes} {}", driver_buffer()));
+        subject.call(format!("turn {path_type} {bytes} {}", driver_buffer()));
+    }
+}
+
+/// A radio driver's buffer as a word: bytes that differ from zero up to behind a small path, then zeros.
+fn driver_buffer() -> String {
+    format!("{}+{}", "ee".repeat(64), shapes::DRIVER_BUFFER - 64)
 }
 
 /// Moves and walks: by document 01, not by the Rust, which has none.
@@ -597,12 +612,15 @@ fn left_records(random: &mut Random, subject: &mut Subject) {
         for limit in [0, 1, usize::MAX] {
             subject.call(format!("recordwalk 1 {text} {limit}"));
         }
-        for size in [bytes.len(), bytes.len() + 1] {
+        for size in [bytes.len(), bytes.len() - 1, bytes.len() + 1] {
             let dst = word(&vec![0xee; size]);
             subject.call(format!("recordcopy 1 {text} {dst}"));
             subject.call(format!("recordturn 1 {text} {dst}"));
         }
     }
+    let bytes = word(&sample([2, 1, 0], 1, 2, 0));
+    subject.call(format!("recordcopy 1 {bytes} {}", driver_buffer()));
+    subject.call(format!("recordturn 1 {bytes} {}", driver_buffer()));
     for (path_type, bytes) in [(0, "-"), (2, "00001000+20"), (1, "00002001+44"), (1, "000020")] {
         subject.call(format!("recordread {path_type} {bytes}"));
         subject.call(format!("recordviews {path_type} {bytes} 0"));

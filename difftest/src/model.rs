@@ -1,6 +1,6 @@
 //! Document 01's rules for what the Rust lacks or leaves open, written from its text alone: moves, walks,
-//! accumulators by a path alone, when a path expires that a move left, the times of a record (request 2026-01), and
-//! the writing of headers that the Rust can't build.
+//! accumulators by a path alone, when a path expires that a move left, the times of a record (request 2026-01), what
+//! an end holds after an arrival (request 2026-08), and the writing of headers that the Rust can't build.
 
 use std::cell::Cell;
 
@@ -9,7 +9,8 @@ use scion_proto::{Answer, Ends, Headers, Host, Path, PathAnswer, TimeLeft, Walk}
 use crate::oracle::path::{LATEST_NOW, Oracle};
 use crate::oracle::{ACCEPTED, Refused, refusal};
 
-/// A plausible wrong rule of moving or of times, put in the right one's place to see that the run's inputs tell them apart.
+/// A plausible wrong rule of moving, of times or of arrivals, put in the right one's place to see that the run's inputs
+/// tell them apart.
 #[derive(Debug, Clone, Copy, PartialEq)]
 pub enum Twist {
     None,
@@ -40,10 +41,11 @@ pub enum Twist {
     AnyNowIsTaken,
     NoExpiryIsRefused,
     NothingIsLeftOnceItHasExpired,
+    EndHoldsTheWholeDestination,
 }
 
 /// All the wrong rules.
-pub const TWISTS: [Twist; 27] = [
+pub const TWISTS: [Twist; 28] = [
     Twist::OwnerIsAlwaysTheFirst,
     Twist::OwnerIsAlwaysTheNext,
     Twist::PeeringSparesEveryOwner,
@@ -71,6 +73,7 @@ pub const TWISTS: [Twist; 27] = [
     Twist::AnyNowIsTaken,
     Twist::NoExpiryIsRefused,
     Twist::NothingIsLeftOnceItHasExpired,
+    Twist::EndHoldsTheWholeDestination,
 ];
 
 thread_local! {
@@ -265,6 +268,12 @@ pub fn walk(oracle: &Oracle, bytes: &mut [u8], limit: usize) -> Walk {
     }
     let arrived = u8::from(shape.hop_pointer + 1 == shape.hop_fields);
     Walk { answer: ACCEPTED, path: record_at(oracle, bytes, &shape), moves, arrived }
+}
+
+/// What an end holds after an arrival: of the destination that it lent, the front of so many bytes alone.
+pub fn held(dst: &[u8], length: usize) -> Vec<u8> {
+    let end = if has(Twist::EndHoldsTheWholeDestination) { dst.len() } else { length.min(dst.len()) };
+    dst[..end].to_vec()
 }
 
 /// Each hop field's accumulator by a path alone, without a move in it.

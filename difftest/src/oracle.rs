@@ -12,7 +12,7 @@ use std::panic::{AssertUnwindSafe, catch_unwind, set_hook, take_hook};
 use bytes::Bytes;
 use scion_proto::{
     Answer, Expiry, HopField, InfoField, Interface, InterfaceCount, Packet, Path, PathAnswer, PathRead, Segment,
-    TimeLeft, Walk,
+    TimeLeft, Walk, WrittenPath,
 };
 use scion_rs::packet::DecodeError;
 use scion_rs::path::standard::PathMetaHeader;
@@ -56,7 +56,7 @@ macro_rules! refused {
 }
 
 refused! {
-    PathAnswer PathRead InfoField HopField Segment Expiry TimeLeft InterfaceCount Interface Walk Packet
+    PathAnswer PathRead WrittenPath InfoField HopField Segment Expiry TimeLeft InterfaceCount Interface Walk Packet
 }
 
 /// When the Rust's path expires by its own account, in ms since 1970.

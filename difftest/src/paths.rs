@@ -123,7 +123,7 @@ const METAS: [[u8; 4]; 26] = [
     [0xff, 0xff, 0xff, 0xff],
 ];
 
-/// No bytes at all, behind a pointer to nowhere: reading, a change in place, a destination.
+/// No bytes at all, behind a pointer to nowhere: reading, a change in place, a destination; and written to a byte.
 pub fn no_bytes(checker: &mut Checker) {
     for path_type in 0..=255 {
         let oracle = Oracle::new(path_type, &[]);
@@ -141,6 +141,10 @@ pub fn no_bytes(checker: &mut Checker) {
         tally.compare(Call::CopyPath, &calls::copy_path(path_type, &[], &mut []), (&expected, source), words);
         let (expected, source) = oracle.reverse_path(&mut []);
         tally.compare(Call::ReversePath, &calls::reverse_path(path_type, &[], &mut []), (&expected, source), words);
+        let input = Input { path_type, bytes: &[] };
+        let oracle = checker.read_path(input);
+        checker.copy_path(input, &oracle, 1);
+        checker.reverse_path(input, &oracle, 1);
     }
 }
 
@@ -150,7 +154,7 @@ pub fn short_buffers(checker: &mut Checker, random: &mut Random) {
         let mut bytes = random.bytes(80);
         bytes[..4].copy_from_slice(&meta);
         for length in 0..=bytes.len() {
-            for path_type in [0, 1, 2, 255] {
+            for path_type in [0, 1, 2, 7, 255] {
                 let input = Input { path_type, bytes: &bytes[..length] };
                 every_call(checker, random, input, false);
             }
@@ -188,16 +192,19 @@ fn small_lengths(most: usize) -> Vec<Lengths> {
     all
 }
 
-/// A path with a byte missing, whole, and with bytes after it.
+/// A path with a byte missing, whole, and with bytes after it, which are other ones than a destination holds; and the
+/// same bytes under other types.
 fn every_size(checker: &mut Checker, random: &mut Random, path: &[u8]) {
     let mut longer = path.to_vec();
-    longer.extend([0xee, 0xef, 0xee]);
+    longer.extend([0x77, 0x78, 0x79]);
     for length in [path.len() - 1, path.len(), path.len() + 1, path.len() + 3] {
         every_call(checker, random, Input { path_type: 1, bytes: &longer[..length] }, true);
     }
-    every_call(checker, random, Input { path_type: 2, bytes: path }, false);
-    every_call(checker, random, Input { path_type: 0, bytes: path }, false);
+    for path_type in [0, 2, 7, 255] {
+        every_call(checker, random, Input { path_type, bytes: path }, true);
+    }
     for index in [0, 1, 70] {
+        crate::results::agree(checker, Input { path_type: 1, bytes: &longer }, index);
         crate::results::agree(checker, Input { path_type: 1, bytes: path }, index);
         crate::results::agree(checker, Input { path_type: 2, bytes: path }, index);
     }
@@ -309,10 +316,10 @@ fn every_interface(checker: &mut Checker, random: &mut Random, input: Input, ora
     }
 }
 
-/// Copies and turns into destinations of the exact size, and of sizes beside it.
+/// Copies and turns into destinations of the exact size, of sizes beside it, and longer ones.
 fn every_destination(checker: &mut Checker, random: &mut Random, input: Input, oracle: &Oracle, thorough: bool) {
     let exact = oracle.length();
-    let sizes = [exact, 0, exact.saturating_sub(1), exact + 1, input.bytes.len(), 4];
+    let sizes = shapes::sizes(exact).into_iter().chain([input.bytes.len(), 4]);
     if thorough {
         for size in sizes {
             checker.copy_path(input, oracle, size);
@@ -323,8 +330,9 @@ fn every_destination(checker: &mut Checker, random: &mut Random, input: Input, o
     checker.copy_path(input, oracle, exact);
     checker.reverse_path(input, oracle, exact);
     if random.once_in(4) {
-        checker.copy_path(input, oracle, random.pick(&sizes));
-        checker.reverse_path(input, oracle, random.pick(&sizes));
+        let any: Vec<usize> = sizes.chain([random.below(shapes::DRIVER_BUFFER)]).collect();
+        checker.copy_path(input, oracle, random.pick(&any));
+        checker.reverse_path(input, oracle, random.pick(&any));
     }
 }
 
@@ -373,7 +381,7 @@ pub fn random_path(checker: &mut Checker, random: &mut Random) {
         }
         _ => shapes::damage(random, &mut bytes, 4),
     }
-    let path_type = if random.once_in(12) { random.pick(&[0, 2, 3, 255]) } else { 1 };
+    let path_type = if random.once_in(12) { random.pick(&[0, 2, 3, 7, 255]) } else { 1 };
     let thorough = random.once_in(400) && bytes.len() < 500;
     every_call(checker, random, Input { path_type, bytes: &bytes }, thorough);
 }

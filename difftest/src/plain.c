@@ -130,23 +130,17 @@ static ScionPath turned_record(ScionPath path, size_t info_fields) {
     }
 }
 
-ScionPathAnswer plain_reverse_path(uint8_t path_type, const uint8_t *bytes, size_t len, uint8_t *dst, size_t dst_len) {
-    if (path_type == SCION_PATH_EMPTY) {
-        return (ScionPathAnswer){0};
-    }
-    if (path_type != SCION_PATH_STANDARD) {
-        if (dst_len != len) {
-            return (ScionPathAnswer){.answer.number = SCION_DESTINATION_SIZE};
-        }
-        memcpy(dst, bytes, len);
-        return (ScionPathAnswer){0};
-    }
+ScionWrittenPath plain_reverse_path(uint8_t path_type, const uint8_t *bytes, size_t len, uint8_t *dst, size_t dst_len) {
     ScionPathRead read = plain_read_path(path_type, bytes, len);
     if (read.answer.number != SCION_ACCEPTED) {
-        return (ScionPathAnswer){.answer = read.answer};
+        return (ScionWrittenPath){.answer = read.answer};
     }
-    if (dst_len != read.length) {
-        return (ScionPathAnswer){.answer.number = SCION_DESTINATION_SIZE};
+    if (dst_len < read.length) {
+        return (ScionWrittenPath){.answer.number = SCION_DESTINATION_SIZE};
+    }
+    if (path_type != SCION_PATH_STANDARD) {
+        memcpy(dst, bytes, read.length);
+        return (ScionWrittenPath){.length = read.length};
     }
     size_t info_fields = info_fields_of(read.path), hop_fields = hop_fields_of(read.path);
     ScionPath turned = turned_record(read.path, info_fields);
@@ -164,7 +158,7 @@ ScionPathAnswer plain_reverse_path(uint8_t path_type, const uint8_t *bytes, size
         memcpy(dst, hop_field, HOP_FIELD);
         dst += HOP_FIELD;
     }
-    return (ScionPathAnswer){.path = turned};
+    return (ScionWrittenPath){.path = turned, .length = read.length};
 }
 
 static size_t host_length(uint8_t kind) {

@@ -2,7 +2,7 @@
 
 use std::fmt::Debug;
 
-use scion_proto::{Answer, Answered, Ends, Expiry, Host, Packet, Path, PathAnswer, PathRead, calls};
+use scion_proto::{Answer, Answered, Ends, Expiry, Host, Packet, Path, PathRead, WrittenPath, calls};
 
 use crate::bench;
 use crate::plant::{self, Plant};
@@ -15,7 +15,7 @@ unsafe extern "C" {
     fn plain_read_path(path_type: u8, bytes: *const u8, len: usize) -> PathRead;
     fn plain_expiry(path_type: u8, bytes: *const u8, len: usize) -> Expiry;
     fn plain_record_expiry(path: Path) -> u64;
-    fn plain_reverse_path(path_type: u8, bytes: *const u8, len: usize, dst: *mut u8, dst_len: usize) -> PathAnswer;
+    fn plain_reverse_path(path_type: u8, bytes: *const u8, len: usize, dst: *mut u8, dst_len: usize) -> WrittenPath;
     fn plain_write_new_headers(
         destination_ia: u64,
         destination: Host,
@@ -53,7 +53,7 @@ pub fn record_expiry(path: Path) -> u64 {
 }
 
 /// `plain_reverse_path`.
-pub fn reverse_path(path_type: u8, bytes: &[u8], dst: &mut [u8]) -> PathAnswer {
+pub fn reverse_path(path_type: u8, bytes: &[u8], dst: &mut [u8]) -> WrittenPath {
     unsafe { plain_reverse_path(path_type, bytes.as_ptr(), bytes.len(), dst.as_mut_ptr(), dst.len()) }
 }
 
@@ -149,7 +149,7 @@ impl Held {
         }
     }
 
-    /// A path read, its expiry by its bytes and by its record, and it turned into destinations of its length and beside it.
+    /// A path read, its expiry by its bytes and by its record, and it turned into destinations of every size.
     fn path(&mut self, path_type: u8, bytes: &[u8]) {
         let none = Vec::new;
         let (plain, ours) = (read_path(path_type, bytes), calls::read_path(path_type, bytes));
@@ -158,8 +158,13 @@ impl Held {
         self.record(ours.path);
         let (plain, ours) = (expiry(path_type, bytes), calls::expiry(path_type, bytes));
         self.hold(Call::Expiry, (plain, none()), (ours, none()), bytes);
-        for size in [length, length + 1, length.saturating_sub(1), bytes.len()] {
-            let plain = |dst: &mut [u8]| reverse_path(path_type, bytes, dst);
+        let planted = self.plant;
+        for size in shapes::sizes(length).into_iter().chain([bytes.len()]) {
+            let plain = |dst: &mut [u8]| {
+                let mut written = reverse_path(path_type, bytes, dst);
+                plant::front(&planted, Call::ReversePath, &mut written, dst);
+                written
+            };
             self.written(Call::ReversePath, bytes, size, plain, |dst| calls::reverse_path(path_type, bytes, dst));
         }
     }
@@ -197,7 +202,8 @@ pub fn held(plant: Option<Plant>) -> Held {
         held.packet(&bytes);
         let mut path = shapes::path(&mut random);
         held.path(1, &path);
-        held.path(random.pick(&[0, 2, 255]), &path);
+        held.path(1, &[&path[..], &[0x77]].concat());
+        held.path(random.pick(&[0, 2, 7, 255]), &path);
         let (kinds, flow) = (random.next() as u8, random.pick(&[0, 1, 0xf_ffff, 0x10_0000]));
         let mut ends = shapes::ends(&mut random, kinds >> 4, kinds & 15);
         if random.once_in(16) {

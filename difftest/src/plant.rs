@@ -1,6 +1,6 @@
 //! Wrong answers planted in the library's: the harness must report each of them.
 
-use scion_proto::{Answer, Answered};
+use scion_proto::{Answer, Answered, WrittenPath};
 
 use crate::tally::Call;
 
@@ -13,6 +13,12 @@ pub enum Fault {
     LentByte(usize),
     /// One bit of a lent byte, counted from the end of its room.
     LentByteFromEnd(usize),
+    /// One bit of the byte behind a path that was written.
+    BehindFront,
+    /// A path written that lacks its last byte, by its bytes and by its length.
+    FrontShort,
+    /// A path written with a byte too many, by its bytes and by its length.
+    FrontLong,
 }
 
 /// A fault in the answers to one call, of the accepted or of the refused ones.
@@ -62,10 +68,30 @@ pub fn lent(plant: &Option<Plant>, call: Call, answer: Answer, room: &mut [u8]) 
     let at = match plant.fault {
         Fault::LentByte(at) => at,
         Fault::LentByteFromEnd(at) => room.len().wrapping_sub(at + 1),
-        Fault::AnswerByte(_) => return,
+        _ => return,
     };
     if let Some(byte) = room.get_mut(at) {
         *byte ^= 1;
+    }
+}
+
+/// Makes the end of a path that was written wrong where a plant says so, and where the destination has that byte.
+#[inline]
+pub fn front(plant: &Option<Plant>, call: Call, written: &mut WrittenPath, dst: &mut [u8]) {
+    let Some(plant) = plant else { return };
+    if !plant.fits(call, written.answer) {
+        return;
+    }
+    let end = written.length;
+    let (at, length) = match plant.fault {
+        Fault::BehindFront => (end, end),
+        Fault::FrontShort => (end.wrapping_sub(1), end.wrapping_sub(1)),
+        Fault::FrontLong => (end, end + 1),
+        _ => return,
+    };
+    if let Some(byte) = dst.get_mut(at) {
+        *byte ^= 1;
+        written.length = length;
     }
 }
 

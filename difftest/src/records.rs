@@ -2,7 +2,7 @@
 
 use scion_proto::{
     Answer, Answered, Expiry, HopField, InfoField, Interface, InterfaceCount, Packet, Path, PathAnswer, PathRead,
-    Segment, TimeLeft, Walk,
+    Segment, TimeLeft, Walk, WrittenPath,
 };
 
 use crate::check::Checker;
@@ -27,7 +27,7 @@ macro_rules! recorded {
 }
 
 recorded! {
-    PathAnswer PathRead InfoField HopField Segment Expiry TimeLeft InterfaceCount Interface Walk Packet
+    PathAnswer PathRead WrittenPath InfoField HopField Segment Expiry TimeLeft InterfaceCount Interface Walk Packet
 }
 
 impl Recorded for Answer {

@@ -1,8 +1,9 @@
 //! The wrapper's results held against the whole answers that they are made of.
 
-use scion_proto::{Answered, MAX_EXPIRY, MAX_NOW, Path, Refusal, calls};
+use scion_proto::{Answered, MAX_EXPIRY, MAX_NOW, Path, Refusal, Written, calls};
 
 use crate::check::{Checker, Input};
+use crate::shapes;
 use crate::tally::{Call, hex};
 
 /// Compares a result with a whole answer, and the value taken from it.
@@ -83,11 +84,22 @@ pub fn agree(checker: &mut Checker, input: Input, index: usize) {
     same(c, Call::Move, input, scion_proto::single_move(kind, &mut two), whole, |w| w.path);
     let whole = calls::walk(kind, &mut one, index);
     same(c, Call::Walk, input, scion_proto::walk(kind, &mut two, index), whole, |w| w);
-    let whole = calls::copy_path(kind, bytes, &mut one);
-    same(c, Call::CopyPath, input, scion_proto::copy_path(kind, bytes, &mut two), whole, |w| w.path);
-    let whole = calls::reverse_path(kind, bytes, &mut one);
-    same(c, Call::ReversePath, input, scion_proto::reverse_path(kind, bytes, &mut two), whole, |w| w.path);
     c.tally.bytes(Call::Walk, &two, &one, || format!("results, type {kind} bytes {}", hex(bytes)));
+    for size in shapes::sizes(calls::read_path(kind, bytes).length) {
+        let mut one = vec![0xee; size];
+        let mut two = one.clone();
+        let whole = calls::copy_path(kind, bytes, &mut one);
+        same(c, Call::CopyPath, input, scion_proto::copy_path(kind, bytes, &mut two), whole, |w| Written {
+            path: w.path,
+            bytes: &mut one[..w.length],
+        });
+        let whole = calls::reverse_path(kind, bytes, &mut one);
+        same(c, Call::ReversePath, input, scion_proto::reverse_path(kind, bytes, &mut two), whole, |w| Written {
+            path: w.path,
+            bytes: &mut one[..w.length],
+        });
+        c.tally.bytes(Call::ReversePath, &two, &one, || format!("results, type {kind} bytes {}", hex(bytes)));
+    }
     same(c, Call::ReadPacket, input, scion_proto::read_packet(bytes), calls::read_packet(bytes), |w| w);
     let record = calls::read_path(kind, bytes).path;
     for record in [record, Path { expiry: MAX_EXPIRY, ..record }, Path { expiry: MAX_EXPIRY + 1, ..record }] {

@@ -1,8 +1,9 @@
-//! Answers worked out by hand for packets, header writing and the times of records (request 2026-01), held against the
-//! Rust, or the model where the Rust lacks the call, and the library. Those for paths are the stored answers of the program
-//! that executes calls, which `replay` holds against the Rust.
+//! Answers worked out by hand for packets, header writing, the times of records (request 2026-01), and copies and
+//! turns into destinations of any size (request 2026-08), held against the Rust, or the model where the Rust lacks the
+//! call, and the library. Others for paths are the stored answers of the program that executes calls, which `replay`
+//! holds against the Rust.
 
-use scion_proto::{Answer, Ends, Headers, Host, Packet, Part, Path};
+use scion_proto::{Answer, Ends, Headers, Host, Packet, Part, Path, WrittenPath};
 
 use crate::check::{Checker, Input};
 use crate::lines::parse_bytes;
@@ -16,6 +17,9 @@ use crate::shapes;
 const K36: &str = "0000000111090000000000000001ff00000001100002ff0000000220d0d1d2d350515253";
 /// A standard path of two hop fields.
 const M1: &str = "000020000100111100000001000000000005a00bc1c2c3c40000000700000cd0e1e2e3e4";
+/// `M1` turned, and `M1` with a byte after it.
+const M1_TURNED: &str = "0000200000001111000000010000000700000cd0e1e2e3e4000000000005a00bc1c2c3c4";
+const M1_AND_77: &str = "000020000100111100000001000000000005a00bc1c2c3c40000000700000cd0e1e2e3e477";
 /// A path of two segments with times 1000 and 10 and expiry bytes 5, 3, 9 and 2.
 const F22: &str = concat!(
     "00002080",
@@ -311,6 +315,49 @@ fn times(checker: &mut Checker, rows: &mut Rows) {
     }
 }
 
+/// Rows on copies and turns into a destination of bytes EE: type, path, size, number, the front of a copy and of a turn.
+fn fronts(checker: &mut Checker, rows: &mut Rows) {
+    for (row, path_type, path, size, number, copied, turned) in [
+        ("08-1", 1, M1, 37, 0, M1, M1_TURNED),
+        ("08-1", 1, M1, 38, 0, M1, M1_TURNED),
+        ("08-1", 1, M1, 2304, 0, M1, M1_TURNED),
+        ("08-1", 2, "010203", 4, 0, "010203", "010203"),
+        ("08-1", 7, "010203", 5, 0, "010203", "010203"),
+        ("08-1", 255, M1, 2304, 0, M1, M1),
+        ("08-2", 1, M1, 35, 9, "-", "-"),
+        ("08-2", 1, M1, 0, 9, "-", "-"),
+        ("08-2", 7, "010203", 2, 9, "-", "-"),
+        ("08-2", 7, "010203", 0, 9, "-", "-"),
+        ("08-2", 1, "00002001", 2304, 4, "-", "-"),
+        ("08-4", 1, M1, 36, 0, M1, M1_TURNED),
+        ("08-4", 7, "010203", 3, 0, "010203", "010203"),
+        ("08-5", 0, "-", 0, 0, "-", "-"),
+        ("08-5", 0, "010203", 1, 0, "-", "-"),
+        ("08-5", 0, M1, 2304, 0, "-", "-"),
+        ("08-5", 7, "-", 0, 0, "-", "-"),
+        ("08-5", 7, "-", 1, 0, "-", "-"),
+        ("08-7", 1, M1_AND_77, 36, 0, M1, M1_TURNED),
+        ("08-7", 1, M1_AND_77, 37, 0, M1, M1_TURNED),
+        ("08-7", 1, M1_AND_77, 2304, 0, M1, M1_TURNED),
+    ] {
+        let bytes = parse_bytes(path);
+        let input = Input { path_type, bytes: &bytes };
+        let oracle = checker.read_path(input);
+        let mut hold = |(written, _): (WrittenPath, _), dst: Vec<u8>, front: &str| {
+            let mut worked = parse_bytes(front);
+            let length = worked.len();
+            worked.resize(size, 0xee);
+            rows.hold(row, (written.answer.number, written.length, dst), (number, length, worked));
+        };
+        let mut dst = vec![0xee; size];
+        checker.copy_path(input, &oracle, size);
+        hold(oracle.copy_path(&mut dst), dst, copied);
+        let mut dst = vec![0xee; size];
+        checker.reverse_path(input, &oracle, size);
+        hold(oracle.reverse_path(&mut dst), dst, turned);
+    }
+}
+
 /// Holds every row; whether the Rust, or the model, gives them all.
 pub fn run(checker: &mut Checker) -> bool {
     let mut rows = Rows::default();
@@ -320,6 +367,7 @@ pub fn run(checker: &mut Checker) -> bool {
     refusals(checker, &mut rows);
     expiries(checker, &mut rows);
     times(checker, &mut rows);
+    fronts(checker, &mut rows);
     println!("  worked answers: {} held, {} that the Rust or the model does not give", rows.held, rows.missed);
     rows.missed == 0
 }

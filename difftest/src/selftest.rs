@@ -1,11 +1,12 @@
-//! The harness made to fail: every byte of every answer, lent bytes and their guards are made wrong in turn, and
-//! plausible wrong rules of moving and of times are put in the right one's place. Each has to be reported.
+//! The harness made to fail: every byte of every answer, lent bytes and their guards, and the ends of paths that are
+//! written are made wrong in turn, and plausible wrong rules of moving, of times and of arrivals are put in the right
+//! one's place. Each has to be reported.
 
 use std::mem::offset_of;
 
 use scion_proto::{
     Answer, Expiry, Headers, HopField, InfoField, Interface, InterfaceCount, Packet, PathAnswer, PathRead, Segment,
-    TimeLeft, Walk,
+    TimeLeft, Walk, WrittenPath,
 };
 
 use crate::check::{Checker, Input};
@@ -38,8 +39,8 @@ fn answer_bytes(call: Call) -> Vec<usize> {
         Call::TimeLeft | Call::RecordTimeLeft => bytes_of::<TimeLeft>(),
         Call::InterfacesCount => bytes_of::<InterfaceCount>(),
         Call::Interface => bytes_of::<Interface>(),
-        Call::SetIngressAlert | Call::SetEgressAlert => bytes_of::<PathAnswer>(),
-        Call::CopyPath | Call::ReversePath | Call::Move => bytes_of::<PathAnswer>(),
+        Call::SetIngressAlert | Call::SetEgressAlert | Call::Move => bytes_of::<PathAnswer>(),
+        Call::CopyPath | Call::ReversePath => bytes_of::<WrittenPath>(),
         Call::Walk => bytes_of::<Walk>(),
         Call::ReadPacket => bytes_of::<Packet>(),
         Call::RecordExpiry => bytes_of::<u64>(),
@@ -59,7 +60,10 @@ fn lends(call: Call) -> bool {
     !is_plain(call) && call != Call::RecordTimeLeft
 }
 
-/// Every fault of a call.
+/// The faults of a path that is written to the front of a destination.
+const FRONT_FAULTS: [Fault; 3] = [Fault::BehindFront, Fault::FrontShort, Fault::FrontLong];
+
+/// Every fault of a call; a refusal has no front that could be short.
 fn faults(call: Call) -> Vec<Plant> {
     let mut all: Vec<Fault> = answer_bytes(call).into_iter().map(Fault::AnswerByte).collect();
     if lends(call) {
@@ -69,9 +73,13 @@ fn faults(call: Call) -> Vec<Plant> {
             all.extend([16, 17, 20].map(Fault::LentByteFromEnd));
         }
     }
+    if matches!(call, Call::CopyPath | Call::ReversePath) {
+        all.extend(FRONT_FAULTS);
+    }
     let ways: &[bool] = if is_plain(call) { &[true] } else { &[true, false] };
     let plant = |(fault, accepted): (&Fault, &bool)| Plant { call, accepted: *accepted, fault: *fault };
-    all.iter().flat_map(|fault| ways.iter().map(move |way| plant((fault, way)))).collect()
+    let plants = all.iter().flat_map(|fault| ways.iter().map(move |way| plant((fault, way))));
+    plants.filter(|plant| plant.accepted || plant.fault != Fault::FrontShort).collect()
 }
 
 /// A short run that makes every call, accepted and refused.
@@ -101,7 +109,7 @@ fn event_run(checker: &mut Checker) {
 
 /// Where the expiry of its record starts in the answer to a move, a walk or a turn.
 const EXPIRY_AT: usize = offset_of!(PathAnswer, path.expiry);
-const _: () = assert!(EXPIRY_AT == offset_of!(Walk, path.expiry));
+const _: () = assert!(EXPIRY_AT == offset_of!(Walk, path.expiry) && EXPIRY_AT == offset_of!(WrittenPath, path.expiry));
 
 /// Whether a run reports a fault.
 fn is_reported(plant: Plant, run: fn(&mut Checker)) -> bool {
@@ -110,8 +118,8 @@ fn is_reported(plant: Plant, run: fn(&mut Checker)) -> bool {
     checker.tally.differed > 0
 }
 
-/// The faults that event lists alone have to find: the number of an answer, the expiry in its record, and every byte of a
-/// path.
+/// The faults that event lists alone have to find: the number of an answer, the expiry in its record, every byte of a
+/// path, how many moves a walk made, and where the path ends that a turn wrote.
 fn event_faults() -> Vec<Plant> {
     let mut all = Vec::new();
     for call in [Call::Move, Call::Walk, Call::ReversePath] {
@@ -122,6 +130,10 @@ fn event_faults() -> Vec<Plant> {
         all.extend((0..12).map(|at| fault(Fault::LentByteFromEnd(at))));
     }
     all.push(Plant { call: Call::Walk, accepted: true, fault: Fault::AnswerByte(offset_of!(Walk, moves)) });
+    let turn = |accepted, fault| Plant { call: Call::ReversePath, accepted, fault };
+    let lengths = (0..8).map(|at| Fault::AnswerByte(offset_of!(WrittenPath, length) + at));
+    all.extend(lengths.clone().chain(FRONT_FAULTS).map(|fault| turn(true, fault)));
+    all.extend(lengths.map(|fault| turn(false, fault)));
     for call in [Call::Move, Call::ReversePath] {
         all.push(Plant { call, accepted: false, fault: Fault::AnswerByte(0) });
         all.push(Plant { call, accepted: false, fault: Fault::LentByte(2) });
@@ -146,6 +158,7 @@ fn runs_of(twist: Twist) -> &'static [fn(&mut Checker)] {
         | Twist::AnyNowIsTaken
         | Twist::NoExpiryIsRefused
         | Twist::NothingIsLeftOnceItHasExpired => &[records::borders],
+        Twist::EndHoldsTheWholeDestination => &[event_run],
         _ => &[move_run, event_run],
     }
 }
@@ -226,7 +239,7 @@ pub fn run() -> bool {
         missed += report(plant, is_reported(plant, event_run), "event lists");
     }
     let twists = missed_twists();
-    println!("{} wrong rules of moving and of times, {twists} missed", TWISTS.len());
+    println!("{} wrong rules of moving, of times and of arrivals, {twists} missed", TWISTS.len());
     let (stored, stored_missed) = stored_faults();
     println!("planted {stored} faults in stored answers, {stored_missed} missed");
     let (plain, plain_missed) = plain_faults();

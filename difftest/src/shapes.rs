@@ -42,6 +42,14 @@ pub const BORDERS: [Lengths; 16] = [
     [63, 63, 63],
 ];
 
+/// The fixed buffer that a radio driver lends, which has room for every standard path.
+pub const DRIVER_BUFFER: usize = 2304;
+
+/// Sizes of a destination for a path of so many bytes: the exact one, those beside it, none, and a driver's buffer.
+pub fn sizes(length: usize) -> [usize; 6] {
+    [length, length.saturating_sub(1), length + 1, length + 2, 0, DRIVER_BUFFER]
+}
+
 /// How the pointers are chosen.
 #[derive(Clone, Copy, PartialEq)]
 pub enum Pointers {

@@ -90,7 +90,10 @@ pub enum Exception {
 
 /// Each exception with its reason.
 pub const EXCEPTIONS: [(Exception, &str); 6] = [
-    (Exception::PanickingSize, "the Rust was seen to panic at this size; 01: 9, or 1 for a number cut short"),
+    (
+        Exception::PanickingSize,
+        "the Rust was seen to panic at this size; 01: 9, or 1 for a number cut short; 2026-08: a longer copy's front",
+    ),
     (
         Exception::InterfaceBeyondCount,
         "interface index at or above the count, where the Rust's answer has no meaning; 01: 8",

@@ -6,7 +6,7 @@ use mathlib.Core.Bool.{Bool, true, false}
 use mathlib.Core.List.{List, _++_, flatMap, reverse as reversed}
 use native.Mathlib.Omega.{arith}
 use lib.Dec.{ltb}
-use lib.ListN.{length, take, drop, getD, set, length-append, length-drop, List·getD-append}
+use lib.ListN.{length, take, drop, getD, set, length-drop, List·getD-append}
 use lib.Seq.{take-append-le, drop-append-le}
 use borrow.Author.Tests.{ltb-true}
 use Rattle.wire_encoding.specs.Result.{Result, ok, refused, require, andThen, mapped}
@@ -23,12 +23,12 @@ use Rattle.path_meta_header.specs.MetaHeader.{infoFieldsCount, hopFieldsCount, 
 use Rattle.path_meta_header.specs.MetaHeader.{pathLength, hopFieldOffset, hopFieldOf}
 use Rattle.path_meta_header.specs.declared.PathMetaHeader.{PathMetaHeader}
 use Rattle.path_meta_header.proofs.Segment.{inside}
-use Rattle.path_least_expiry.specs.Expiry.{hopExpiry, segmentExpiry, pathExpiry}
+use Rattle.path_least_expiry.specs.Expiry.{hopExpiry, segmentExpiry}
 use Rattle.path_least_expiry.proofs.Least.{least-same}
 use Rattle.path.specs.Standard.{infoAt}
 use Rattle.path.specs.Dataplane.{Extent, readDataplane, dataplaneRead, pathOf, pathLeft, standard, infoFieldIn, hopFieldIn, segmentIn, alerted}
 use Rattle.path.proofs.Reading.{Readable, record-read, standard-read}
-use Rattle.path.proofs.Kept.{readable-within, within, path-alerted}
+use Rattle.path.proofs.Kept.{readable-after, expires-after, record-after, path-alerted}
 use Rattle.path_hop_fields.specs.PathRuns.{hopFieldsIn}
 use Rattle.path_expiry.specs.Expiry.{segmentExpiryIn, expiryIn, timeLeftIn}
 use Rattle.path_interfaces.specs.Interfaces.{Place, interfaceAt, interfacesIn, interfaceIn}
@@ -44,25 +44,15 @@ module _ (p t : List ℕ) (m : PathMetaHeader) (r : Readable p m) where
 
   -- READING
 
-  -- the path's bytes stand first
-  room : pathLength m ≤ length (p ++ t)
-  room = simp length-append (omega (arith, r .whole))
-
-  stays : (i : ℕ) → i < pathLength m → getD (p ++ t) i 0 ≡ getD p i 0
-  stays i l = List·getD-append p t 0 i (omega (arith, r .whole))
-
-  pub readable-after : Readable (p ++ t) m
-  readable-after = readable-within p (p ++ t) m r room stays
-
-  expiry-same : pathExpiry (p ++ t) m ≡ pathExpiry p m
-  expiry-same = within p (p ++ t) m r room stays
+  after : Readable (p ++ t) m
+  after = readable-after p t m r
 
   standard-after : standard 1 (p ++ t) ≡ standard 1 p
-  standard-after = standard-read (p ++ t) m readable-after ∙ sym (standard-read p m r)
+  standard-after = standard-read (p ++ t) m after ∙ sym (standard-read p m r)
 
   reading-after : readDataplane 1 (p ++ t) ≡ readDataplane 1 p
   unfolding readDataplane
-  reading-after = rw (record-read (p ++ t) m readable-after, record-read p m r, expiry-same)
+  reading-after = rw (record-after p t m r)
 
   -- so the record is the same
   pub path-after : pathOf 1 (p ++ t) ≡ pathOf 1 p
@@ -86,7 +76,7 @@ module _ (p t : List ℕ) (m : PathMetaHeader) (r : Readable p m) where
 
   segment-expiry-after : (k : ℕ) → segmentExpiryIn 1 (p ++ t) k ≡ segmentExpiryIn 1 p k
   unfolding segmentExpiryIn
-  segment-expiry-after k = rw (standard-read (p ++ t) m readable-after, standard-read p m r) (go (ltb k (infoFieldsCount m)) refl)
+  segment-expiry-after k = rw (standard-read (p ++ t) m after, standard-read p m r) (go (ltb k (infoFieldsCount m)) refl)
     where
       go : (there : Bool) → ltb k (infoFieldsCount m) ≡ there
           → require {A = ℕ} there NoSuchField (ok (segmentExpiry (p ++ t) m k)) ≡ require there NoSuchField (ok (segmentExpiry p m k))
@@ -95,13 +85,13 @@ module _ (p t : List ℕ) (m : PathMetaHeader) (r : Readable p m) where
 
   expiry-after : expiryIn 1 (p ++ t) ≡ expiryIn 1 p
   unfolding expiryIn
-  expiry-after = rw (standard-read (p ++ t) m readable-after, standard-read p m r) (ap ok expiry-same)
+  expiry-after = rw (standard-read (p ++ t) m after, standard-read p m r) (ap ok (expires-after p t m r))
 
   -- INTERFACES
 
   interface-after : (i : ℕ) → interfaceIn 1 (p ++ t) i ≡ interfaceIn 1 p i
   unfolding interfaceIn interfaceAt
-  interface-after i = rw (standard-read (p ++ t) m readable-after, standard-read p m r) (go (hopFieldOf m i) refl)
+  interface-after i = rw (standard-read (p ++ t) m after, standard-read p m r) (go (hopFieldOf m i) refl)
     where
       found : List ℕ → ℕ → Result PathError Place
       found bytes j = ok (record { hop = j; interface = interfaceAt bytes m j i })
@@ -119,7 +109,7 @@ module _ (p t : List ℕ) (m : PathMetaHeader) (r : Readable p m) where
 
   copy-after : (dst : List ℕ) → copy 1 (p ++ t) dst ≡ copy 1 p dst
   unfolding copy readDataplane
-  copy-after dst = rw (record-read (p ++ t) m readable-after, record-read p m r, front-same)
+  copy-after dst = rw (record-read (p ++ t) m after, record-read p m r, front-same)
 
   records-same : (f : List ℕ → List ℕ) (k n from : ℕ) → from + n * k ≤ length p
       → reversedRecords f k n (drop from (p ++ t)) ≡ reversedRecords f k n (drop from p)
@@ -138,13 +128,13 @@ module _ (p t : List ℕ) (m : PathMetaHeader) (r : Readable p m) where
 
   reverse-after : (dst : List ℕ) → reverse 1 (p ++ t) dst ≡ reverse 1 p dst
   unfolding reverse readDataplane reversedBytes
-  reverse-after dst = rw (record-read (p ++ t) m readable-after, record-read p m r, reversed-same)
+  reverse-after dst = rw (record-read (p ++ t) m after, record-read p m r, reversed-same)
 
   -- ALERT FLAGS
 
   pub alert-after : (bit : ℕ) (on : Bool) (j : ℕ) → alerted bit on 1 (p ++ t) j ≡ mapped (before t) (alerted bit on 1 p j)
   unfolding alerted hopFieldOffset
-  alert-after bit on j = rw (standard-read (p ++ t) m readable-after, standard-read p m r) (go (ltb j (hopFieldsCount m)) refl)
+  alert-after bit on j = rw (standard-read (p ++ t) m after, standard-read p m r) (go (ltb j (hopFieldsCount m)) refl)
     where
       at : ℕ
       at = hopStart m j
@@ -161,7 +151,7 @@ module _ (p t : List ℕ) (m : PathMetaHeader) (r : Readable p m) where
   -- the record stays on both sides
   pub alert-record-after : (bit : ℕ) (on : Bool) (j : ℕ) → pathLeft 1 (alerted bit on 1 (p ++ t) j) ≡ pathLeft 1 (alerted bit on 1 p j)
   unfolding alerted
-  alert-record-after bit on j = rw (standard-read (p ++ t) m readable-after, standard-read p m r) (go (hopFieldOffset m j) refl)
+  alert-record-after bit on j = rw (standard-read (p ++ t) m after, standard-read p m r) (go (hopFieldOffset m j) refl)
     where
       flagged : List ℕ → ℕ → Result PathError (List ℕ)
       flagged bytes flags = ok (set bytes flags (withBit bit on (getD bytes flags 0)))
@@ -169,7 +159,7 @@ module _ (p t : List ℕ) (m : PathMetaHeader) (r : Readable p m) where
       go : (offset : Result PathError ℕ) → hopFieldOffset m j ≡ offset
           → pathLeft 1 (andThen offset (flagged (p ++ t))) ≡ pathLeft 1 (andThen offset (flagged p))
       go (ok flags) e =
-          path-alerted 1 (p ++ t) m j _ (standard-read (p ++ t) m readable-after) e
+          path-alerted 1 (p ++ t) m j _ (standard-read (p ++ t) m after) e
           ∙ path-after
           ∙ sym (path-alerted 1 p m j _ (standard-read p m r) e)
       go (refused error) e = refl

@@ -22,6 +22,7 @@ use Rattle.path_meta_header.specs.declared.PathMetaHeader.{PathMetaHeader}
 use Rattle.path.specs.Standard.{infoAt}
 use Rattle.path.specs.Dataplane.{pathOf, pathLeft}
 use Rattle.path.proofs.Reading.{Readable, standard-read}
+use Rattle.path.proofs.Kept.{readable-after}
 use Rattle.path_moves.specs.Rules.{ownerOf, somePeering, peeringPath, peeringAllowed, movable}
 use Rattle.path_moves.specs.Moves.{CanMove, Way, codeOf, takesIn, moveBytes, isLast, move, moved, movedMeta, iterate, walkMoves, walk, walked}
 use Rattle.path_moves.specs.Moves.{walkAnswer}
@@ -29,7 +30,7 @@ use Rattle.path_moves.proofs.Rules.{known, owner-below}
 use Rattle.path_moves.proofs.Moves.{Standing, can-move, standing, moved-known}
 use Rattle.path_moves.proofs.Sums.{after}
 use Rattle.bytes_after_path.specs.BytesAfterPath.{before, wayBefore, ChangedAlike}
-use Rattle.bytes_after_path.proofs.Calls.{readable-after, path-after, info-after, alert-after, alert-record-after}
+use Rattle.bytes_after_path.proofs.Calls.{path-after, info-after, alert-after, alert-record-after}
 
 -- WHICH PATHS CAN BE MOVED
 

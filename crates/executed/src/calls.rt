@@ -161,9 +161,9 @@ fn write(number: usize, line: &[u8], bytes: &[u8], dst: &mut [u8]) {
     let path = DataplanePath::new(words::u8_at(line, 1));
     match number {
         // `copy T B D`: the path copied to a destination that holds D.
-        1 => travel::done(copy_to_slice(path, bytes, dst)),
+        1 => travel::written(copy_to_slice(path, bytes, dst)),
         // `turn T B D`: the path reversed into a destination that holds D.
-        2 => travel::done(reverse_to_slice(path, bytes, dst)),
+        2 => travel::written(reverse_to_slice(path, bytes, dst)),
         3 => meta_headers::encode(line, dst),
         // `putaddress`, the eight words of an address header, and D: an address header written alone.
         4 => packets::encoded(packets::address_at(line, 1).encode_to(dst)),
@@ -172,9 +172,9 @@ fn write(number: usize, line: &[u8], bytes: &[u8], dst: &mut [u8]) {
         7 => packets::new(line, bytes, dst),
         8 => packets::write(line, bytes, dst),
         // `recordcopy T B D`: the path copied to a destination that holds D.
-        9 => records::left(copy_to_slice(path, bytes, dst)),
+        9 => records::written(copy_to_slice(path, bytes, dst)),
         // `recordturn T B D`: the path reversed into a destination that holds D.
-        _ => records::left(reverse_to_slice(path, bytes, dst)),
+        _ => records::written(reverse_to_slice(path, bytes, dst)),
     }
 }
 

@@ -7,6 +7,7 @@ use path::dataplane::DataplanePath;
 use path::dataplane::PathAnswer;
 use path::standard::StandardPath;
 use path_meta_header::PathMetaHeader;
+use path_reverse::WrittenPath;
 
 // A record: pointers, reserved bits, lengths, and the expiry.
 fn record(path: StandardPath) {
@@ -56,6 +57,14 @@ pub fn left(left: PathAnswer) {
     let answer = left.answer;
     print::answer(answer);
     record(left.path);
+}
+
+// The record of the path that is written to a destination, and how many bytes of it the path is.
+pub fn written(written: WrittenPath) {
+    let answer = written.answer;
+    print::answer(answer);
+    record(written.path);
+    print::number(written.length as u64);
 }
 
 // `recordalert T B i k n`: the ingress (k 1) or egress (k 0) alert flag of hop field i set to n.

@@ -3,11 +3,19 @@ use crate::print;
 use crate::words;
 use path::dataplane::DataplanePath;
 use path::dataplane::PathAnswer;
+use path_reverse::WrittenPath;
 
 // Whether a call was carried out.
 pub fn done(path: PathAnswer) {
     let answer = path.answer;
     print::answer(answer);
+}
+
+// Whether a path was written, and how many bytes of the destination it is.
+pub fn written(path: WrittenPath) {
+    let answer = path.answer;
+    print::answer(answer);
+    print::number(path.length as u64);
 }
 
 // `alert T B i k n`: the bytes with the ingress (k 1) or egress (k 0) alert flag of hop field i set to n.

@@ -1,11 +1,11 @@
--- A path is read by its first bytes, so a copy of them is read alike, and so is the path after a write to a hop field's flags.
+-- A path is read by its first bytes, so it is read alike in a copy, with other bytes after it, and after a write to a hop field's flags.
 -- Assumes nothing.
 use Prim.Native.Nat.{ℕ, _≤_, _<_}
 use mathlib.Core.Path.{_≡_, refl, sym, ap, _∙_}
-use mathlib.Core.List.{List}
+use mathlib.Core.List.{List, _++_}
 use native.Mathlib.Omega.{arith}
 use lib.Dec.{ltb}
-use lib.ListN.{length, getD, set, length-set}
+use lib.ListN.{length, getD, set, length-append, length-set, List·getD-append}
 use lib.Seq.{getD-set-other}
 use Rattle.wire_encoding.specs.Result.{Result, ok}
 use Rattle.wire_encoding.specs.Bits.{withBit}
@@ -16,6 +16,7 @@ use Rattle.path_meta_header.specs.declared.PathMetaHeader.{PathMetaHeader}
 use Rattle.errors.specs.declared.path_error.PathError.{PathError}
 use Rattle.path_least_expiry.specs.Expiry.{pathExpiry}
 use Rattle.path_least_expiry.proofs.Kept.{none-below, expiry-within, expiry-flags}
+use Rattle.path.specs.Standard.{readRecord}
 use Rattle.path.specs.Dataplane.{pathOf, standard, alerted, Fits, RecordFits, RecordExpires, KeepsExpiry, AlertFlagsKeepExpiry}
 use Rattle.path.proofs.Reading.{Readable, record-read, path-of, standard-type, standard-readable}
 
@@ -64,6 +65,24 @@ module _ (x y : List ℕ) (m : PathMetaHeader) (r : Readable x m) (room : pathLe
 
     pub within : pathExpiry y m ≡ pathExpiry x m
     within = expiry-within x y m (r .sound-meta) e
+
+-- BYTES AFTER A PATH: it is read as without them
+
+module _ (p t : List ℕ) (m : PathMetaHeader) (r : Readable p m) where
+  after-room : pathLength m ≤ length (p ++ t)
+  after-room = simp length-append (omega (arith, r .whole))
+
+  stays : (i : ℕ) → i < pathLength m → getD (p ++ t) i 0 ≡ getD p i 0
+  stays i l = List·getD-append p t 0 i (omega (arith, r .whole))
+
+  pub readable-after : Readable (p ++ t) m
+  readable-after = readable-within p (p ++ t) m r after-room stays
+
+  pub expires-after : pathExpiry (p ++ t) m ≡ pathExpiry p m
+  expires-after = within p (p ++ t) m r after-room stays
+
+  pub record-after : readRecord (p ++ t) ≡ readRecord p
+  record-after = rw (record-read (p ++ t) m readable-after, record-read p m r, expires-after)
 
 -- AN ALERT FLAG
 

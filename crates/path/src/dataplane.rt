@@ -108,7 +108,7 @@ impl PathAnswer {
     }
 
     // The refusal of a path that can't be read.
-    pub fn not_read(error: DecodeError) -> PathAnswer
+    fn not_read(error: DecodeError) -> PathAnswer
         ensures { λ r. ⌜ r ≡ record { answer = answers.Refused (errors.Decode error); path = noPath } ⌝ }
     {
         PathAnswer::refused(PathError::Decode(error))

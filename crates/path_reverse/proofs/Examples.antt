@@ -1,14 +1,16 @@
 -- Worked examples of reversal, computed: pointers and reserved bits set, unused flag bits set, one, two and three segments.
 -- Assumes nothing.
 use mathlib.Core.Path.{_≡_, refl}
-use mathlib.Core.List.{List, [], _∷_, flatMap}
+use mathlib.Core.List.{List, [], _∷_, _++_, flatMap}
 use Prim.Native.Nat.{ℕ}
 use lib.ListN.{replicate}
+use Rattle.wire_encoding.specs.Result.{ok, refused}
 use Rattle.wire_encoding.specs.BigEndian.{bigEndian, bytesOf, room, records}
 use Rattle.wire_encoding.specs.Bits.{withBit}
 use Rattle.path_meta_header.specs.MetaHeader as meta
 use Rattle.path_meta_header.specs.Reversal as reversal
 use Rattle.path_meta_header.specs.Encoding as encoding
+use Rattle.errors.specs.declared.path_error.PathError.the-variants.{InadequateBufferSize}
 use Rattle.path.specs.Standard as standard
 use Rattle.path.specs.Dataplane as dataplane
 use Rattle.path_reverse.specs.Copy as copy
@@ -50,14 +52,16 @@ three-segments-reversed =
     0x00 ∷ 0x00 ∷ 0x05 ∷ 0x00 ∷ 0x06 ∷ 0xA2 ∷ 0x0D ∷ 0x12 ∷ 0x22 ∷ 0x32 ∷ 0x42 ∷ 0x00 ∷ 0x00 ∷ 0x00 ∷ 0x03 ∷ 0x00 ∷ 0x04 ∷ 0xA1 ∷ 0x0C ∷ 0x11
     ∷ 0x21 ∷ 0x31 ∷ 0x41 ∷ 0x00 ∷ 0x00 ∷ 0x00 ∷ 0x01 ∷ 0x00 ∷ 0x02 ∷ 0xA0 ∷ 0x0B ∷ 0x10 ∷ 0x20 ∷ 0x30 ∷ 0x40 ∷ []
 
-pub examples : (dataplane.contents (reverse.reverse 1 one-segment (replicate 36 0)) (replicate 36 0) ≡ one-segment-reversed)
-    × ((dataplane.contents (reverse.reverse 1 two-segments (replicate 56 0)) (replicate 56 0) ≡ two-segments-reversed)
-    × ((dataplane.contents (reverse.reverse 1 three-segments (replicate 76 0)) (replicate 76 0) ≡ three-segments-reversed)
-    × ((dataplane.contents (reverse.reverse 1 one-segment (replicate 37 0)) (replicate 37 0) ≡ replicate 37 0)
-    × (dataplane.contents (reverse.reverse 7 (1 ∷ 2 ∷ 3 ∷ []) (0 ∷ 0 ∷ 0 ∷ [])) (0 ∷ 0 ∷ 0 ∷ []) ≡ 1 ∷ 2 ∷ 3 ∷ []))))
+-- each reversed into a destination of its length; one into two bytes more, and into one byte less; an opaque path into two bytes more
+pub examples : (copy.contentsAfter (reverse.reverse 1 one-segment (replicate 36 0)) [] ≡ one-segment-reversed)
+    × ((copy.contentsAfter (reverse.reverse 1 two-segments (replicate 56 0)) [] ≡ two-segments-reversed)
+    × ((copy.contentsAfter (reverse.reverse 1 three-segments (replicate 76 0)) [] ≡ three-segments-reversed)
+    × ((reverse.reverse 1 one-segment (replicate 38 9) ≡ ok (record { length = 36; left = one-segment-reversed ++ (9 ∷ 9 ∷ []) }))
+    × ((reverse.reverse 1 one-segment (replicate 35 9) ≡ refused InadequateBufferSize)
+    × (reverse.reverse 7 (1 ∷ 2 ∷ 3 ∷ []) (replicate 5 9) ≡ ok (record { length = 3; left = 1 ∷ 2 ∷ 3 ∷ 9 ∷ 9 ∷ [] }))))))
 unfolding one-segment two-segments three-segments one-segment-reversed two-segments-reversed three-segments-reversed bigEndian bytesOf room withBit
     meta.nthField meta.metaOf meta.infoFieldsCount meta.hopFieldsCount meta.segmentOf meta.pathLength meta.lengthsValid meta.infoValid meta.hopValid
     meta.checked meta.readMeta encoding.wordOf reversal.atStart reversal.reversedLengths reversal.reversedMeta standard.readPath
     standard.readRecord dataplane.readDataplane copy.into copy.copy flatMap records reverse.reversedRecords reverse.flipped reverse.same
     reverse.reversedUnder reverse.reversedPath reverse.reversedBytes reverse.reverse
-examples = (refl, (refl, (refl, (refl, refl))))
+examples = (refl, (refl, (refl, (refl, (refl, refl)))))

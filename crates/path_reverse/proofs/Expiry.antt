@@ -5,13 +5,14 @@ use Prim.Native.Nat.{ℕ, _+_, _-_, _*_, _≤_, _<_}
 use mathlib.Core.Path.{_≡_, refl, sym, ap, ap₂, _∙_}
 use mathlib.Core.Bool.{Bool, true, false}
 use mathlib.Core.List.{List}
+use native.Mathlib.Nat.{le-refl}
 use native.Mathlib.Omega.{arith}
 use lib.Dec.{eqb}
 use lib.ListN.{length, take, getD}
 use lib.Seq.{getD-take, length-take-le}
 use borrow.Author.Tests.{eqb-true, eqb-false}
-use Rattle.wire_encoding.specs.Result.{ok, refusing}
-use Rattle.wire_encoding.proofs.Result.{same-value, stepped, refusing-ok}
+use Rattle.wire_encoding.specs.Result.{ok, mapped, refusing}
+use Rattle.wire_encoding.proofs.Result.{same-value, stepped, refusing-ok, mapped-ok}
 use Rattle.wire_encoding.proofs.Lists.{getD-part}
 use Rattle.errors.specs.declared.path_error.PathError.the-variants.{Decode}
 use Rattle.path_fields.specs.Fields.{withConstructedDir, hopFieldAt, expiryTime}
@@ -31,9 +32,9 @@ use Rattle.path.specs.Dataplane.{Extent, readDataplane, pathOf}
 use Rattle.path.specs.declared.standard.StandardPath.{StandardPath}
 use Rattle.path.proofs.Reading.{by-record, no-record, Readable, readable, record-readable, path-of}
 use Rattle.path.proofs.Kept.{path-kept, keeps, readable-within, within}
-use Rattle.path_reverse.specs.Copy.{copy, CopyKeepsExpiry}
+use Rattle.path_reverse.specs.Copy.{copy, front, CopyKeepsExpiry}
 use Rattle.path_reverse.specs.Reverse.{reversedPath, reversedBytes, reverse, ReversedExpiry, ReversalKeepsExpiry}
-use Rattle.path_reverse.proofs.Copy.{into-left}
+use Rattle.path_reverse.proofs.Copy.{front-is}
 use Rattle.path_reverse.proofs.Reverse.{length-reversedPath, reversible}
 use Rattle.path_reverse.proofs.Reversed.{reversed-word, reversed-hop-field, reversed-info-field}
 
@@ -75,7 +76,7 @@ module _ (x : List ℕ) (m : PathMetaHeader) (r : Readable x m) where
           segment = rows-start m t I opposite;
         };
         whole = omega (arith, length-reversedPath m x (r .whole), reversed-length);
-        word = reversed-word m x t (length-reversedLengths m) (fitting t (reversible r refl .fits));
+        word = reversed-word m x t (length-reversedLengths m) (fitting t (reversible r (le-refl (pathLength m)) .fits));
       }
 
   -- the timestamps and the expiry bytes, in opposite order
@@ -125,7 +126,7 @@ module _ (x : List ℕ) (m : PathMetaHeader) (r : Readable x m) where
   same : (i : ℕ) → i < pathLength m → getD own i 0 ≡ getD x i 0
   same i l = getD-take (pathLength m) x i 0 l
 
-  copied-readable : Readable (take (pathLength m) x) m
+  pub copied-readable : Readable (take (pathLength m) x) m
   copied-readable = readable-within x own m r room same
 
   expiry-copied : pathExpiry (take (pathLength m) x) m ≡ pathExpiry x m
@@ -134,11 +135,11 @@ module _ (x : List ℕ) (m : PathMetaHeader) (r : Readable x m) where
 -- A STANDARD PATH THAT WAS READ
 
 -- it is as long as its header says
-record Standard (bytes : List ℕ) (read : Extent) : Type 0 where
-  known : Readable bytes (read .path .«meta_header»)
-  long : read .length ≡ pathLength (read .path .«meta_header»)
+pub record Standard (bytes : List ℕ) (read : Extent) : Type 0 where
+  pub known : Readable bytes (read .path .«meta_header»)
+  pub long : read .length ≡ pathLength (read .path .«meta_header»)
 
-standard : (bytes : List ℕ) {read : Extent} → readDataplane 1 bytes ≡ ok read → Standard bytes read
+pub standard : (bytes : List ℕ) {read : Extent} → readDataplane 1 bytes ≡ ok read → Standard bytes read
 unfolding readDataplane
 standard bytes h =
     let found = stepped (readRecord bytes) _ h in
@@ -155,12 +156,6 @@ path-reversed bytes {path} h =
     let r = record-readable bytes h in
     path-kept bytes (reversedPath m bytes) m (reversedMeta m) r (reversed-readable bytes m r) (expiry-reversed bytes m r)
     ∙ ap (λ (p : StandardPath). record { «meta_header» = reversedMeta m; expiry = p .expiry }) (sym (read .1))
-
--- of a path that is empty: zeros, whatever its destination holds
-pub path-empty : (type : ℕ) (bytes dst : List ℕ) → type ≡ 0 → pathOf type dst ≡ pathOf type bytes
-path-empty type bytes dst empty =
-    let other : type ≡ 1 → ⊥ = λ one. omega arith in
-    no-record type dst .1 other ∙ sym (no-record type bytes .1 other)
 
 -- of a path that is copied: the record of what was read
 standard-copied : (bytes : List ℕ) {read : Extent} → readDataplane 1 bytes ≡ ok read → pathOf 1 (take (read .length) bytes) ≡ pathOf 1 bytes
@@ -189,22 +184,25 @@ path-copied type bytes {read} h = go (eqb type 1) refl
 pub copy-keeps-expiry : CopyKeepsExpiry
 unfolding copy
 copy-keeps-expiry bytes dst left h =
-    let read = stepped (refusing Decode (readDataplane 1 bytes)) _ h in
+    let call = mapped-ok front (copy 1 bytes dst) h in
+    let read = stepped (refusing Decode (readDataplane 1 bytes)) _ (call .first) in
     let s = standard bytes (refusing-ok Decode (readDataplane 1 bytes) (read .first)) in
     let m = read .value .path .«meta_header» in
     let r = s .known in
     let own : List ℕ = take (pathLength m) bytes in
     let made : own ≡ left =
-    ap (λ (n : ℕ). take n bytes) (sym (s .long)) ∙ into-left 1 (λ e. omega arith) (take (read .value .length) bytes) dst (read .then) in
-    keeps bytes own m m r (copied-readable bytes m r) (expiry-copied bytes m r) (copy 1 bytes dst) (h ∙ ap ok (sym made)) left h
+    ap (λ (n : ℕ). take n bytes) (sym (s .long)) ∙ sym (front-is (take (read .value .length) bytes) dst (read .then)) ∙ same-value (call .then) in
+    keeps bytes own m m r (copied-readable bytes m r) (expiry-copied bytes m r) (mapped front (copy 1 bytes dst)) (h ∙ ap ok (sym made)) left h
 
 pub reversal-keeps-expiry : ReversalKeepsExpiry
 unfolding reverse reversedBytes
 reversal-keeps-expiry bytes dst left h =
-    let read = stepped (refusing Decode (readDataplane 1 bytes)) _ h in
+    let call = mapped-ok front (reverse 1 bytes dst) h in
+    let read = stepped (refusing Decode (readDataplane 1 bytes)) _ (call .first) in
     let s = standard bytes (refusing-ok Decode (readDataplane 1 bytes) (read .first)) in
     let m = read .value .path .«meta_header» in
     let r = s .known in
     let y : List ℕ = reversedPath m bytes in
-    let made : y ≡ left = into-left 1 (λ e. omega arith) y dst (read .then) in
-    keeps bytes y m (reversedMeta m) r (reversed-readable bytes m r) (expiry-reversed bytes m r) (reverse 1 bytes dst) (h ∙ ap ok (sym made)) left h
+    let made : y ≡ left = sym (front-is y dst (read .then)) ∙ same-value (call .then) in
+    keeps bytes y m (reversedMeta m) r (reversed-readable bytes m r) (expiry-reversed bytes m r) (mapped front (reverse 1 bytes dst))
+    (h ∙ ap ok (sym made)) left h

@@ -4,3 +4,4 @@ pub mod Reverse
 pub mod Reversed
 pub mod Twice
 pub mod Expiry
+pub mod Destination

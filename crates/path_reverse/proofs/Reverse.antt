@@ -17,7 +17,7 @@ use Rattle.wire_encoding.specs.BigEndian.{bigEndian, bytesOf, part, placed, rec
 use Rattle.wire_encoding.proofs.Bits.{flip-bit}
 use Rattle.wire_encoding.proofs.Lists.{length-part, part-join, written-after, sets-whole}
 use Rattle.wire_encoding.proofs.BigEndian.{length-bytesOf}
-use Rattle.wire_encoding.proofs.Writes.{lent-run, placed-is}
+use Rattle.wire_encoding.proofs.Writes.{front-written, lent-run, placed-is}
 use Rattle.path_meta_header.specs.MetaHeader.{nthField, metaOf, infoFieldsCount, hopFieldsCount, pathLength}
 use Rattle.path_meta_header.specs.Reversal.{atStart, reversedMeta}
 use Rattle.path_meta_header.proofs.Reversal.{rowOf, row-is}
@@ -30,7 +30,7 @@ use Rattle.path.specs.Standard.{readRecord}
 use Rattle.path.specs.Dataplane.{readDataplane}
 use Rattle.path.proofs.Reading.{Readable, record-read}
 use Rattle.path_reverse.specs.Copy.{copy}
-use Rattle.path_reverse.proofs.Copy.{into-exact, into-other}
+use Rattle.path_reverse.proofs.Copy.{inFront, into-enough, into-fewer, front-run}
 use Rattle.path_reverse.specs.Reverse.{reversedRecords, flipped, same, reversedUnder, reversedPath, reversedBytes, reverse, Reversible}
 
 -- THE PARTS OF A FIELD
@@ -194,11 +194,11 @@ module _ (m : PathMetaHeader) (bytes : List ℕ) where
     unfolding reversedPath
     length-reversedPath = length-reversed (reversedMeta m)
 
-  -- the three writes, one after another, of the reversed word and of as many fields as there are, are the path reversed
+  -- the three writes, one after another, of the reversed word and of as many fields as there are, are the path reversed in front
   pub all-written : (dst : List ℕ) {word i n at : ℕ} {d₁ d₂ d₃ : List ℕ} → Reversible m (length bytes) (length dst)
       → word ≡ wordOf (reversedMeta m) → i ≡ infoFieldsCount m → n ≡ hopFieldsCount m → at ≡ 4 + infoFieldsCount m * 8
       → d₁ ≡ placed dst 0 (bytesOf 4 word) → d₂ ≡ sets d₁ 4 (reversedRecords flipped 8 i (drop 4 bytes))
-      → d₃ ≡ sets d₂ at (reversedRecords same 12 n (drop at bytes)) → d₃ ≡ reversedPath m bytes
+      → d₃ ≡ sets d₂ at (reversedRecords same 12 n (drop at bytes)) → d₃ ≡ reversedPath m bytes ++ drop (pathLength m) dst
   unfolding reversedPath reversedUnder pathLength
   all-written dst {d₁ = d₁} {d₂ = d₂} r spelt is many starts e₁ e₂ e₃ =
       let header : List ℕ = bytesOf 4 (wordOf (reversedMeta m)) in
@@ -210,7 +210,7 @@ module _ (m : PathMetaHeader) (bytes : List ℕ) where
       ∙ ap (λ (d : List ℕ). sets d (4 + infoFieldsCount m * 8) hops) second
       ∙ written-after infos hops (sets dst 0 header) 4 (infoFieldsCount m * 8) (length-infos (r .whole))
       ∙ written-after header (infos ++ hops) dst 0 4 size
-      ∙ sets-whole (reversedPath m bytes) dst (length-reversedPath (r .whole) ∙ sym (r .exact))
+      ∙ front-written (reversedPath m bytes) dst (pathLength m) (length-reversedPath (r .whole)) (r .room)
 
 -- THE REVERSED HEADER
 
@@ -242,12 +242,12 @@ unfolding reversedMeta metaOf nthField
 fits-read word =
     ap (λ (l : List ℕ). metaFits (atStart l)) (row-is (metaOf word)) ∙ fits-reversed _ _ _ (omega arith) (omega arith) (omega arith)
 
--- so a path that was read can be reversed into a destination of its length
-pub reversible : {bytes : List ℕ} {m : PathMetaHeader} {n : ℕ} → Readable bytes m → n ≡ pathLength m → Reversible m (length bytes) n
+-- so a path that was read can be reversed into a destination of at least its length
+pub reversible : {bytes : List ℕ} {m : PathMetaHeader} {n : ℕ} → Readable bytes m → pathLength m ≤ n → Reversible m (length bytes) n
 reversible {bytes} r e = record {
   fits = ap (λ (h : PathMetaHeader). metaFits (reversedMeta h)) (r .word) ∙ fits-read (bigEndian 4 bytes 0);
   whole = r .whole;
-  exact = e;
+  room = e;
 }
 
 -- THE CALL
@@ -267,10 +267,13 @@ module _ (bytes dst : List ℕ) where
     long : length (reversedPath m bytes) ≡ pathLength m
     long = length-reversedPath m bytes (r .whole)
 
-    pub reverse-exact : length dst ≡ pathLength m → reverse 1 bytes dst ≡ ok (reversedPath m bytes)
-    unfolding reverse reversedBytes readDataplane
-    reverse-exact h = rw (record-read bytes m r, into-exact 1 (λ e. omega arith) (reversedPath m bytes) dst (h ∙ sym long))
+    pub front-reversed : take (pathLength m) (reversedPath m bytes ++ drop (pathLength m) dst) ≡ reversedPath m bytes
+    front-reversed = front-run (reversedPath m bytes) dst long
 
-    pub reverse-other : (length dst ≡ pathLength m → ⊥) → reverse 1 bytes dst ≡ refused InadequateBufferSize
+    pub reverse-enough : pathLength m ≤ length dst → reverse 1 bytes dst ≡ ok (inFront (reversedPath m bytes) dst (pathLength m))
     unfolding reverse reversedBytes readDataplane
-    reverse-other h = rw (record-read bytes m r, into-other 1 (λ e. omega arith) (reversedPath m bytes) dst (λ e. h (e ∙ long)))
+    reverse-enough room = rw (record-read bytes m r, into-enough (reversedPath m bytes) dst long room)
+
+    pub reverse-fewer : length dst < pathLength m → reverse 1 bytes dst ≡ refused InadequateBufferSize
+    unfolding reverse reversedBytes readDataplane
+    reverse-fewer short = rw (record-read bytes m r, into-fewer (reversedPath m bytes) dst long short)

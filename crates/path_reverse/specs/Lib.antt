@@ -1,2 +1,3 @@
 pub mod Copy
 pub mod Reverse
+pub mod Destination

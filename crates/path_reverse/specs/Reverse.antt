@@ -6,7 +6,7 @@ use mathlib.Core.Bool.{true, not, cond}
 use mathlib.Core.List.{List, [], _∷_, _++_, flatMap, reverse as reversed}
 use lib.ListN.{take, drop}
 use lib.Dec.{eqb}
-use Rattle.wire_encoding.specs.Result.{Result, ok, _>>=_, refusing}
+use Rattle.wire_encoding.specs.Result.{Result, ok, _>>=_, mapped, refusing}
 use Rattle.wire_encoding.specs.Bits.{bitOf, withBit}
 use Rattle.wire_encoding.specs.BigEndian.{bytesOf, part, records}
 use Rattle.path_meta_header.specs.MetaHeader.{metaHeaderLength, infoFieldsCount, hopFieldsCount, infoStart, hopFieldsStart, pathLength}
@@ -19,7 +19,7 @@ use Rattle.errors.specs.declared.path_error.PathError.the-variants.{Decode}
 use Rattle.path_least_expiry.specs.Expiry.{pathExpiry}
 use Rattle.path.specs.Standard.{readPath}
 use Rattle.path.specs.Dataplane.{Extent, readDataplane, KeepsExpiry}
-use Rattle.path_reverse.specs.Copy.{into}
+use Rattle.path_reverse.specs.Copy.{Written, into, front}
 
 -- f of each of the first n records of k bytes, in opposite order
 unfoldable pub reversedRecords : (List ℕ → List ℕ) → ℕ → ℕ → List ℕ → List ℕ
@@ -57,21 +57,21 @@ ReversedTwice =
     → reversedPath (reversedMeta m) (reversedPath m bytes)
     ≡ bytesOf metaHeaderLength (wordOf (atStart (m .«segment_lengths»))) ++ part (infoStart 0) (pathLength m - metaHeaderLength) bytes
 
--- a path that can be reversed into a destination of its length
+-- a path that can be reversed into a destination of at least its length
 pub record Reversible (m : PathMetaHeader) (source destination : ℕ) : Type 0 where
   pub fits : metaFits (reversedMeta m) ≡ true
   pub whole : pathLength m ≤ source
-  pub exact : destination ≡ pathLength m
+  pub room : pathLength m ≤ destination
 
 -- what is written of a path of any type: a standard path reversed, an opaque one as it is
 unfoldable pub reversedBytes : ℕ → Extent → List ℕ → List ℕ
 reversedBytes type read bytes = cond (eqb type 1) (reversedPath (read .path .«meta_header») bytes) (take (read .length) bytes)
 
-unfoldable pub reverse : ℕ → List ℕ → List ℕ → Result PathError (List ℕ)
+unfoldable pub reverse : ℕ → List ℕ → List ℕ → Result PathError Written
 reverse type bytes dst = do
   read ← refusing Decode (readDataplane type bytes)
-  into type (reversedBytes type read bytes) dst
+  into (reversedBytes type read bytes) dst
 
 -- a theorem: the record of the path that is written fits it, and has the expiry of the path that was read
 abbrev pub ReversalKeepsExpiry : Type 0
-ReversalKeepsExpiry = (bytes dst : List ℕ) → KeepsExpiry bytes (reverse 1 bytes dst)
+ReversalKeepsExpiry = (bytes dst : List ℕ) → KeepsExpiry bytes (mapped front (reverse 1 bytes dst))

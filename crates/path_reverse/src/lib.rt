@@ -1,8 +1,8 @@
 // Path reversal, which document 01 calls a turn, and copying: a path written into lent bytes.
 use errors::packet_error::Decoded;
+use errors::path_error::Answer;
 use errors::path_error::PathError;
 use path::dataplane::DataplanePath;
-use path::dataplane::PathAnswer;
 use path::standard::StandardPath;
 use path_fields::HopField;
 use path_fields::InfoField;
@@ -15,33 +15,66 @@ use wire_encoding::write::put_slice;
 use wire_encoding::write::put_u32;
 use wire_encoding::write::put_u64;
 ghost use mathlib.Core.Path.{_≡_};
-ghost use Rattle.path.specs.Dataplane.{writtenAnswer, contents};
-ghost use Rattle.path_reverse.specs.Copy as copying;
 ghost use mathlib.Core.Bool.{true};
+ghost use mathlib.Core.List.{_++_};
 ghost use Prim.Native.Nat.{_+_, _*_, _≤_};
 ghost use lib.ListN.{length, drop};
 ghost use lib.Seq.{sets};
+ghost use Rattle.errors.specs.declared.path_error.Answer.the-variants as answers;
+ghost use Rattle.path.specs.Standard.{noPath};
+ghost use Rattle.path_meta_header.specs.MetaHeader.{pathLength};
 ghost use Rattle.path_meta_header.specs.Encoding.{metaFits, wordOf};
+ghost use Rattle.path_reverse.specs.Copy as copying;
 ghost use Rattle.path_reverse.specs.Reverse as spec;
 
-// Copies the path to a destination of exactly its length. An empty path disregards its destination.
-pub fn copy_to_slice(path: DataplanePath, bytes: &[u8], dst: &mut [u8]) -> PathAnswer
-    ensures { λ r. ⌜ r ≡ writtenAnswer (path .«path_type») (copying.copy (path .«path_type») (now (bytes .entry)) (now (dst .entry))) ⌝ }
-    ensures { λ _. ⌜ now (dst .exit) ≡ contents (copying.copy (path .«path_type») (now (bytes .entry)) (now (dst .entry))) (now (dst .entry)) ⌝ }
+// Whether a path was written, the record of the path as written, and how many bytes it has: the front of the destination.
+pub struct WrittenPath {
+    pub answer: Answer,
+    pub path: StandardPath,
+    pub length: usize,
+}
+
+impl WrittenPath {
+    // A path of `length` bytes that was written.
+    fn accepted(path: StandardPath, length: usize) -> WrittenPath
+        ensures { λ r. ⌜ r ≡ record { answer = answers.Accepted; path = path; length = length } ⌝ }
+    {
+        WrittenPath {
+            answer: Answer::Accepted,
+            path,
+            length,
+        }
+    }
+
+    fn refused(error: PathError) -> WrittenPath
+        ensures { λ r. ⌜ r ≡ record { answer = answers.Refused error; path = noPath; length = 0 } ⌝ }
+    {
+        let path = StandardPath::zero();
+        WrittenPath {
+            answer: Answer::Refused(error),
+            path,
+            length: 0,
+        }
+    }
+}
+
+// Copies the path to the front of a destination of at least its length; the bytes behind it stay as they are.
+pub fn copy_to_slice(path: DataplanePath, bytes: &[u8], dst: &mut [u8]) -> WrittenPath
+    ensures { λ r. ⌜ r
+        ≡ copying.writtenPath (path .«path_type») (copying.copy (path .«path_type») (now (bytes .entry)) (now (dst .entry))) ⌝ }
+    ensures { λ _. ⌜ now (dst .exit)
+        ≡ copying.contentsAfter (copying.copy (path .«path_type») (now (bytes .entry)) (now (dst .entry))) (now (dst .entry)) ⌝ }
 {
     let read = path.decode(bytes);
     let answer = read.answer;
     if let Decoded::Refused(error) = answer {
-        return PathAnswer::not_read(error);
+        return WrittenPath::refused(PathError::Decode(error));
     }
-    if path.path_type == DataplanePath::EMPTY {
-        return PathAnswer::accepted(read.path);
-    }
-    if dst.len() != read.length {
-        return PathAnswer::refused(PathError::InadequateBufferSize);
+    if dst.len() < read.length {
+        return WrittenPath::refused(PathError::InadequateBufferSize);
     }
     put_slice(dst, 0, part_of(bytes, 0, read.length));
-    PathAnswer::accepted(read.path)
+    WrittenPath::accepted(read.path, read.length)
 }
 
 // Writes an info field to `dst`, its direction bit flipped.
@@ -109,10 +142,11 @@ fn word_of(meta_header: PathMetaHeader) -> u32
     }
 }
 
-// Writes a whole path reversed to a destination of its length.
+// Writes a whole path reversed to the front of a destination of at least its length.
 fn reverse_fields(meta_header: PathMetaHeader, bytes: &[u8], dst: &mut [u8])
     requires { ⌜ spec.Reversible «meta_header» (length (now bytes)) (length (now dst)) ⌝ }
-    ensures { λ _. ⌜ now (dst .exit) ≡ spec.reversedPath «meta_header» (now (bytes .entry)) ⌝ }
+    ensures { λ _. ⌜ now (dst .exit)
+        ≡ spec.reversedPath «meta_header» (now (bytes .entry)) ++ drop (pathLength «meta_header») (now (dst .entry)) ⌝ }
 {
     let infos = meta_header.info_fields_count();
     let hops = meta_header.hop_fields_count();
@@ -129,11 +163,13 @@ fn reverse_fields(meta_header: PathMetaHeader, bytes: &[u8], dst: &mut [u8])
     reverse_hop_fields(bytes, first_hop, dst, first_hop, hops);
 }
 
-// Writes the reversed path to a destination of exactly the path's length: a standard path by the draft's Path Reversal,
-// an opaque one as it is. An empty path writes nothing and disregards its destination.
-pub fn reverse_to_slice(path: DataplanePath, bytes: &[u8], dst: &mut [u8]) -> PathAnswer
-    ensures { λ r. ⌜ r ≡ writtenAnswer (path .«path_type») (spec.reverse (path .«path_type») (now (bytes .entry)) (now (dst .entry))) ⌝ }
-    ensures { λ _. ⌜ now (dst .exit) ≡ contents (spec.reverse (path .«path_type») (now (bytes .entry)) (now (dst .entry))) (now (dst .entry)) ⌝ }
+// Writes the reversed path to the front of a destination of at least the path's length: a standard path by the draft's Path
+// Reversal, an opaque one as it is. The bytes behind it stay as they are.
+pub fn reverse_to_slice(path: DataplanePath, bytes: &[u8], dst: &mut [u8]) -> WrittenPath
+    ensures { λ r. ⌜ r
+        ≡ copying.writtenPath (path .«path_type») (spec.reverse (path .«path_type») (now (bytes .entry)) (now (dst .entry))) ⌝ }
+    ensures { λ _. ⌜ now (dst .exit)
+        ≡ copying.contentsAfter (spec.reverse (path .«path_type») (now (bytes .entry)) (now (dst .entry))) (now (dst .entry)) ⌝ }
 {
     if path.path_type != DataplanePath::SCION {
         return copy_to_slice(path, bytes, dst);
@@ -141,15 +177,17 @@ pub fn reverse_to_slice(path: DataplanePath, bytes: &[u8], dst: &mut [u8]) -> Pa
     let read = StandardPath::decode(bytes);
     let answer = read.answer;
     if let Decoded::Refused(error) = answer {
-        return PathAnswer::not_read(error);
+        return WrittenPath::refused(PathError::Decode(error));
     }
     let meta_header = read.path.meta_header;
-    if dst.len() != meta_header.encoded_path_length() {
-        return PathAnswer::refused(PathError::InadequateBufferSize);
+    let length = meta_header.encoded_path_length();
+    if dst.len() < length {
+        return WrittenPath::refused(PathError::InadequateBufferSize);
     }
     reverse_fields(meta_header, bytes, dst);
-    PathAnswer::accepted(StandardPath {
+    let reversed = StandardPath {
         meta_header: meta_header.to_reversed(),
         expiry: read.path.expiry,
-    })
+    };
+    WrittenPath::accepted(reversed, length)
 }

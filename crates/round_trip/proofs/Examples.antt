@@ -40,7 +40,7 @@ unfolding bigEndian bytesOf room withBit fields.infoFieldAt fields.hopFieldAt fi
     round.atLast round.holding round.arrived round.step round.after round.meeting round.byPath round.exchanged round.meets
     round.reversedInto round.reply
     examples.info examples.hop examples.hops examples.peered examples.travels examples.begins examples.leaves
-computed = (refl, refl, refl, refl)
+computed = (refl, refl, refl, refl, refl)
 
 -- THE PREMISES CAN BE MET
 

@@ -7,17 +7,18 @@ use mathlib.Core.Bool.{Bool, true, false, cond}
 use mathlib.Core.List.{List, [], _∷_, _++_}
 use mathlib.Core.Option.{Option, none, some, IsSome, Option·some-injective}
 use native.Mathlib.Omega.{arith}
-use lib.Dec.{eqb}
+use lib.Dec.{leb}
 use lib.ListN.{length, set, getElem?}
-use borrow.Author.Tests.{eqb-true, eqb-false}
+use borrow.Author.Tests.{eqb-true, leb-true, leb-false}
 use Rattle.wire_encoding.proofs.Lists.{by-lt}
 use Rattle.path_meta_header.specs.MetaHeader.{hopFieldsCount, pathLength}
 use Rattle.path_meta_header.specs.declared.PathMetaHeader.{PathMetaHeader}
 use Rattle.path_moves.specs.Moves as moves
 use Rattle.wire_encoding.specs.Result.{mapped, orElse}
 use Rattle.path.specs.Dataplane.{metaHeaderOf}
-use Rattle.path_reverse.specs.Reverse.{reverse}
-use Rattle.round_trip.specs.RoundTrip.{reversedInto, End, first, other, Packet, State, begin, byEnd, Event, sending, single-move, walk, loss}
+use Rattle.path_reverse.specs.Copy.{front}
+use Rattle.path_reverse.specs.Reverse.{reversedPath, reverse}
+use Rattle.round_trip.specs.RoundTrip.{End, first, other, Packet, State, begin, byEnd, Event, sending, single-move, walk, loss}
 use Rattle.round_trip.specs.RoundTrip.{doubling, arrival, onTheWay, onPacket, sent, packetMoved, packetWalked, without, hopCount, pointer}
 use Rattle.round_trip.specs.RoundTrip.{atLast, holding, arrived, step, after, met, meets, Begun, Stands, All, reply, reached, Claim}
 use Rattle.round_trip.proofs.Mirror.{Path}
@@ -184,41 +185,40 @@ module _ (b : List ℕ) (g : Begun b) where
 
   -- the end takes the packet in
   takes-in : (s : State) → Holds s → (i : ℕ) (to : End) (x : List ℕ) (c : ℕ) → Tracked b to x c → c + 1 ≡ hopCount b
-      → (dst : List ℕ) → length dst ≡ length b → Holds (holding s i (record { bytes = x; to = to; count = c }) (reversedInto x dst))
+      → Holds (holding s i (record { bytes = x; to = to; count = c }) (reversedPath (trackMeta b to c) x))
   unfolding holding byEnd All reached
-  takes-in s v i other x c t last dst e =
+  takes-in s v i other x c t last =
       record {
         packets = all-without (Each b) (s .packets) i (v .packets);
         counts = (last, v .counts);
         first-end = v .first-end;
         other-end =
             ap {B = Option (List ℕ)} some
-            (ap (λ (y : List ℕ). reversedInto y dst) (t .is) ∙ reversed-out b g c last dst e ∙ sym (reply-track b g));
+            (ap (reversedPath (trackMeta b other c)) (t .is) ∙ reversed-out b g c last ∙ sym (reply-track b g));
       }
-  takes-in s v i first x c t last dst e =
+  takes-in s v i first x c t last =
       record {
         packets = all-without (Each b) (s .packets) i (v .packets);
         counts = (last, v .counts);
-        first-end = ap {B = Option (List ℕ)} some (ap (λ (y : List ℕ). reversedInto y dst) (t .is) ∙ reversed-back b g c last dst e);
+        first-end = ap {B = Option (List ℕ)} some (ap (reversedPath (trackMeta b first c)) (t .is) ∙ reversed-back b g c last);
         other-end = v .other-end;
       }
 
   arrives : (s : State) → Holds s → (i : ℕ) (dst : List ℕ) (q : Packet) → Each b q → Holds (arrived s i dst q)
-  unfolding arrived reversedInto
-  arrives s v i dst q t = go (atLast (q .bytes)) refl (eqb (length dst) (length b)) refl
+  unfolding arrived
+  arrives s v i dst q t = go (atLast (q .bytes)) refl (leb (length b) (length dst)) refl
     where
       long : length b ≡ pathLength (m q t)
       long = track-length b g (q .to) (q .count) (t .below)
 
-      go : (a : Bool) → atLast (q .bytes) ≡ a → (r : Bool) → eqb (length dst) (length b) ≡ r
-          → Holds (cond a (orElse (mapped (holding s i q) (reverse 1 (q .bytes) dst)) s) s)
+      go : (a : Bool) → atLast (q .bytes) ≡ a → (r : Bool) → leb (length b) (length dst) ≡ r
+          → Holds (cond a (orElse (mapped (holding s i q) (mapped front (reverse 1 (q .bytes) dst))) s) s)
       go false e r f = v
       go true e true f =
-          let size : length dst ≡ length b = eqb-true (length dst) (length b) f in
-          let accepted = reverse-accepted (q .bytes) (m q t) (path q t) dst (size ∙ long) in
-          rw accepted (rw accepted at (takes-in s v i (q .to) (q .bytes) (q .count) t (last-count q t e) dst size))
+          rw (reverse-accepted (q .bytes) (m q t) (path q t) dst (omega (arith, leb-true (length b) (length dst) f, long)))
+          (takes-in s v i (q .to) (q .bytes) (q .count) t (last-count q t e))
       go true e false f =
-          rw (reverse-refused (q .bytes) (m q t) (path q t) dst (λ size. eqb-false (length dst) (length b) f (size ∙ sym long))) v
+          rw (reverse-refused (q .bytes) (m q t) (path q t) dst (omega (arith, leb-false (length b) (length dst) f, long))) v
 
   -- THE EVENTS
 

@@ -13,6 +13,7 @@ use Rattle.path_meta_header.specs.declared.PathMetaHeader.{PathMetaHeader}
 use Rattle.path_moves.specs.Moves.{atPosition, iterate, moveBytes, moveFrom, moved, movedMeta, positionOf, walked, walkMoves}
 use Rattle.path_moves.proofs.Moves.{moved-is}
 use Rattle.path.specs.Dataplane.{metaHeaderOf}
+use Rattle.path_reverse.specs.Reverse.{reversedPath}
 use Rattle.round_trip.specs.RoundTrip.{reversedInto, End, first, other, byEnd, hopCount, met, Begun, meets, reply}
 use Rattle.round_trip.specs.Mirror.{reversedMetaAt, mirrorMeta, mirror}
 use Rattle.round_trip.proofs.Mirror.{Path, hop-below, mirror-infos, mirror-hops, mirror-twice, path-mirror, reversedPath-mirror}
@@ -20,7 +21,7 @@ use Rattle.round_trip.proofs.Moved.{can-move, path-moved}
 use Rattle.round_trip.proofs.Back.{back-before-last, moved-back}
 use Rattle.round_trip.proofs.Onward.{standingAt, Onward, onward}
 use Rattle.round_trip.proofs.Meetings.{met-onward, met-mirror}
-use Rattle.round_trip.proofs.Calls.{path-begun, walked-moves, reverse-accepted}
+use Rattle.round_trip.proofs.Calls.{path-begun, walked-moves, reverse-exact}
 
 -- the bytes of a packet to an end, after so many moves
 unfoldable pub track : List ℕ → End → ℕ → List ℕ
@@ -153,29 +154,25 @@ module _ (b : List ℕ) (g : Begun b) where
   unfolding pathLength
   track-length to p l = omega (arith, path .exact, track-hops to p l, track-infos to p l)
 
-  -- at the last hop field, into a destination of B's length
-  reversed-mirror : (to : End) (p : ℕ) → p + 1 ≡ hopCount b → (dst : List ℕ) → length dst ≡ length b
-      → reversedInto (track b to p) dst ≡ mirror (trackMeta b to p) (track b to p)
-  unfolding reversedInto
-  reversed-mirror to p last dst e =
+  -- at the last hop field
+  reversed-mirror : (to : End) (p : ℕ) → p + 1 ≡ hopCount b
+      → reversedPath (trackMeta b to p) (track b to p) ≡ mirror (trackMeta b to p) (track b to p)
+  reversed-mirror to p last =
       let l : p < N = omega arith in
-      let x : List ℕ = track b to p in
-      let mx : PathMetaHeader = trackMeta b to p in
-      rw (reverse-accepted x mx (track-path to p l) dst (e ∙ track-length to p l))
-      (reversedPath-mirror x mx (track-path to p l) (omega (arith, track-pointer to p l, track-hops to p l)))
+      reversedPath-mirror (track b to p) (trackMeta b to p) (track-path to p l) (omega (arith, track-pointer to p l, track-hops to p l))
 
-  pub reversed-out : (p : ℕ) → p + 1 ≡ hopCount b → (dst : List ℕ) → length dst ≡ length b → reversedInto (track b other p) dst ≡ track b first 0
+  pub reversed-out : (p : ℕ) → p + 1 ≡ hopCount b → reversedPath (trackMeta b other p) (track b other p) ≡ track b first 0
   unfolding track trackMeta
-  reversed-out p last dst e =
+  reversed-out p last =
       let all : p ≡ N - 1 - 0 = omega arith in
-      reversed-mirror other p last dst e ∙ ap (λ (q : ℕ). mirror (standingAt m q) (iterate q (moved 1) b)) all
+      reversed-mirror other p last ∙ ap (λ (q : ℕ). mirror (standingAt m q) (iterate q (moved 1) b)) all
 
-  pub reversed-back : (p : ℕ) → p + 1 ≡ hopCount b → (dst : List ℕ) → length dst ≡ length b → reversedInto (track b first p) dst ≡ b
+  pub reversed-back : (p : ℕ) → p + 1 ≡ hopCount b → reversedPath (trackMeta b first p) (track b first p) ≡ b
   unfolding track trackMeta
-  reversed-back p last dst e =
+  reversed-back p last =
       let q : ℕ = N - 1 - p in
       let none : q ≡ 0 = omega arith in
-      reversed-mirror first p last dst e
+      reversed-mirror first p last
       ∙ mirror-twice (iterate q (moved 1) b) (standingAt m q) (at q (omega arith) .path)
       ∙ ap (λ (n : ℕ). iterate n (moved 1) b) none
 
@@ -185,6 +182,9 @@ module _ (b : List ℕ) (g : Begun b) where
   unfolding reply track
   reply-track =
       let last : ℕ = N - 1 in
+      let below : last < N = omega (arith, some-hop) in
       let dst : List ℕ = replicate (length b) 0 in
-      ap (λ (x : List ℕ). reversedInto x dst) (track-from-start other last (omega (arith, some-hop)))
-      ∙ reversed-out last (omega (arith, some-hop)) dst (length-replicate (length b) 0)
+      ap (λ (x : List ℕ). reversedInto x dst) (track-from-start other last below)
+      ∙ reverse-exact (track b other last) (trackMeta b other last) (track-path other last below) dst
+      (length-replicate (length b) 0 ∙ track-length other last below)
+      ∙ reversed-out last (omega (arith, some-hop))

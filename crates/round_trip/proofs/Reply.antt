@@ -5,20 +5,23 @@ use Prim.Native.Nat.{ℕ, zero, suc, _+_, _-_, _*_, _<_}
 use mathlib.Core.Path.{_≡_, refl, sym, ap, ap₂, _∙_}
 use mathlib.Core.List.{List, [], _∷_, _++_}
 use native.Mathlib.Omega.{arith}
+use Rattle.wire_encoding.specs.Result.{ok, mapped}
 use Rattle.wire_encoding.specs.BigEndian.{part}
 use Rattle.path_meta_header.specs.MetaHeader.{infoFieldsCount, hopFieldsCount, hopStart}
 use Rattle.path_meta_header.specs.declared.PathMetaHeader.{PathMetaHeader}
 use Rattle.path_moves.specs.Moves.{atPosition, iterate, moved, walked}
 use Rattle.path.specs.Dataplane.{metaHeaderOf}
-use Rattle.round_trip.specs.RoundTrip.{reversedInto, first, other, byEnd, hopCount, Meeting, met, exchanged, Begun, meets, reply}
+use Rattle.path_reverse.specs.Copy.{front}
+use Rattle.path_reverse.specs.Reverse.{reverse}
+use Rattle.round_trip.specs.RoundTrip.{first, other, byEnd, hopCount, Meeting, met, exchanged, Begun, meets, reply}
 use Rattle.round_trip.specs.Mirror.{mirror}
 use Rattle.round_trip.specs.Reply.{MetWalked, ReplyMetWalked, along, against, OppositeOrder, ReplyHopField, ReplyMirror, ReplyReversed}
 use Rattle.round_trip.proofs.Mirror.{mirror-field}
 use Rattle.round_trip.proofs.Onward.{standingAt, Onward, onward}
 use Rattle.round_trip.proofs.Meetings.{path-header}
-use Rattle.round_trip.proofs.Calls.{path-begun}
-use Rattle.round_trip.proofs.Packets.{track, trackMeta, some-hop, track-path, track-met, track-from-start, track-infos, reversed-back}
-use Rattle.round_trip.proofs.Packets.{reply-track}
+use Rattle.round_trip.proofs.Calls.{path-begun, reverse-accepted}
+use Rattle.round_trip.proofs.Packets.{track, trackMeta, some-hop, track-path, track-met, track-from-start, track-infos}
+use Rattle.round_trip.proofs.Packets.{track-length, reversed-back, reply-track}
 
 module _ (b : List ℕ) (g : Begun b) where
   abbrev m : PathMetaHeader
@@ -59,10 +62,13 @@ reply-mirror b g p l =
     reply-walked-track b g p l ∙ sym (ap₂ mirror (header-walked b g q (omega arith)) (walked-track b g q (omega arith)))
 
 pub reply-reversed : ReplyReversed
-reply-reversed b g dst e =
-    let N : ℕ = hopCount b in
-    let last : N - 1 + 1 ≡ N = omega (arith, some-hop b g) in
-    ap (λ (x : List ℕ). reversedInto x dst) (reply-walked-track b g (N - 1) (omega arith)) ∙ reversed-back b g (N - 1) last dst e
+reply-reversed b g dst room =
+    let last : ℕ = hopCount b - 1 in
+    let below : last < hopCount b = omega (arith, some-hop b g) in
+    ap (λ (x : List ℕ). mapped front (reverse 1 x dst)) (reply-walked-track b g last below)
+    ∙ reverse-accepted (track b first last) (trackMeta b first last) (track-path b g first last below) dst
+    (omega (arith, track-length b g first last below))
+    ∙ ap ok (reversed-back b g last (omega (arith, below)))
 
 pub reply-hop-field : ReplyHopField
 unfolding track standingAt atPosition infoFieldsCount hopFieldsCount

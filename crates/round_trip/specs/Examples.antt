@@ -9,6 +9,7 @@ use Rattle.path_fields.specs.declared.Interface.the-variants.{Id}
 use Rattle.path_moves.specs.Moves.{accumulatorBy}
 use Rattle.round_trip.specs.RoundTrip.{first, other, Packet, State, begin, Event, sending, single-move, walk, doubling, arrival, after, Begun}
 use Rattle.round_trip.specs.RoundTrip.{meets, reply}
+use Rattle.round_trip.specs.Reply.{trip, atEnd}
 
 -- THE PATHS
 
@@ -88,6 +89,17 @@ travels =
     ∷ walk 1 1
     ∷ []
 
+-- the trip out and back into buffers of 2,304 bytes, which hold other bytes: each end holds the 92 bytes of its path
+abbrev pub TripIntoBuffers : Type 0
+TripIntoBuffers =
+    after (begin peered) (trip peered (replicate 2304 0xEE) (replicate 2304 0xDD))
+    ≡ record {
+      first-holds = some peered;
+      other-holds = some (reply peered);
+      packets = [];
+      taken = atEnd peered first (reply peered) ∷ atEnd peered other peered ∷ [];
+    }
+
 -- the counts of packets
 abbrev pub counts : List Packet → List ℕ
 counts packets = map (λ (q : Packet). q .count) packets
@@ -114,4 +126,4 @@ abbrev pub MetBack : Type 0
 MetBack = meets peered first 1 ≡ record { field = hop 4; accumulator = 0x2222; entry = Id 10; exit = Id 9 }
 
 abbrev pub Computed : Type 0
-Computed = AccumulatorsByAlone × ReplyBegins × Travelled × MetBack
+Computed = AccumulatorsByAlone × ReplyBegins × Travelled × MetBack × TripIntoBuffers

@@ -13,7 +13,8 @@ use Rattle.path_fields.specs.Fields.{ingressInterface, egressInterface}
 use Rattle.path_fields.specs.declared.Interface.{Interface}
 use Rattle.path_meta_header.specs.MetaHeader.{hopFieldsCount, pathLength, hopStart}
 use Rattle.path.specs.Standard.{hopAt}
-use Rattle.path.specs.Dataplane.{standard, metaHeaderOf, contents}
+use Rattle.path.specs.Dataplane.{standard, metaHeaderOf}
+use Rattle.path_reverse.specs.Copy.{front, contentsAfter}
 use Rattle.path_reverse.specs.Reverse as reverse
 use Rattle.path_moves.specs.Moves as moves
 use Rattle.path_moves.specs.Rules as rules
@@ -109,11 +110,11 @@ holding s i q path =
     }
 
 -- "Arrival: a packet whose hop pointer is N − 1 is turned into a destination that its end lends"; "an arrival elsewhere than at N − 1
--- … change nothing"
+-- … change nothing". Request 2026-08: "an end then holds the front alone", as many bytes of what the turn leaves as its answer says
 unfoldable pub arrived : State → ℕ → List ℕ → Packet → State
 arrived s i destination q =
     cond (atLast (q .bytes))
-    (orElse (mapped (holding s i q) (reverse.reverse 1 (q .bytes) destination)) s)
+    (orElse (mapped (holding s i q) (mapped front (reverse.reverse 1 (q .bytes) destination))) s)
     s
 
 unfoldable pub step : State → Event → State
@@ -196,7 +197,7 @@ All P (a ∷ l) = P a × All P l
 
 -- "B walked to N − 1 and turned": the calls one after the other, the turn into a destination of B's length
 unfoldable pub reversedInto : List ℕ → List ℕ → List ℕ
-reversedInto bytes destination = contents (reverse.reverse 1 bytes destination) destination
+reversedInto bytes destination = contentsAfter (reverse.reverse 1 bytes destination) destination
 
 unfoldable pub reply : List ℕ → List ℕ
 reply b = reversedInto (moves.walked 1 b (hopCount b - 1)) (replicate (length b) 0)

@@ -15,12 +15,13 @@ use Rattle.path.specs.Dataplane.{writtenAnswer, located, segment}
 use Rattle.path.specs.TimeLeft.{timeLeftFound}
 use Rattle.path_expiry.specs.Expiry.{expiryFound}
 use Rattle.path_interfaces.specs.Interfaces.{interfaceCount, interfaceFound}
+use Rattle.path_reverse.specs.Copy.{writtenPath}
 use Rattle.path_moves.specs.Moves.{walkAnswer}
 use Rattle.path.specs.declared.standard.StandardPath.{StandardPath}
 use Rattle.path.specs.declared.standard.Part.{Part}
 use Rattle.scion_paths.specs.Answer.{answerOut}
-use Rattle.scion_paths.specs.Paths.{pathAnswerOut, infoFieldOut, hopFieldOut, segmentOut, expiryOut, timeLeftOut, interfaceCountOut}
-use Rattle.scion_paths.specs.Paths.{interfaceOut, walkOut}
+use Rattle.scion_paths.specs.Paths.{pathAnswerOut, writtenPathOut, infoFieldOut, hopFieldOut, segmentOut, expiryOut, timeLeftOut}
+use Rattle.scion_paths.specs.Paths.{interfaceCountOut, interfaceOut, walkOut}
 
 -- the record of no path, and no part
 abbrev pub zeros : StandardPath
@@ -38,6 +39,11 @@ module _ (path : StandardPath) (error : PathError) where
       ≡ record { answer = answerOut (Refused error); path = zeros }
   unfolding pathAnswerOut writtenAnswer metaOf nthField
   path-answer-refused type = refl
+
+  pub written-path-refused : (type : ℕ) → writtenPathOut (writtenPath type (refused error))
+      ≡ record { answer = answerOut (Refused error); path = zeros; length = 0 }
+  unfolding writtenPathOut writtenPath metaOf nthField
+  written-path-refused type = refl
 
   pub info-field-refused : (bytes : List ℕ) → infoFieldOut bytes (located path (refused error))
       ≡ record { answer = answerOut (Refused error); path = zeros; start = 0; flags = 0; reserved = 0; accumulator = 0; timestamp = 0 }

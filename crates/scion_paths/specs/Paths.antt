@@ -14,10 +14,12 @@ use Rattle.path_expiry.specs.declared.Expiry.{Expiry}
 use Rattle.path.specs.declared.standard.time_left.TimeLeft.{TimeLeft}
 use Rattle.path_interfaces.specs.declared.InterfaceCount.{InterfaceCount}
 use Rattle.path_interfaces.specs.declared.InterfaceAt.{InterfaceAt}
+use Rattle.path_reverse.specs.declared.WrittenPath.{WrittenPath}
 use Rattle.path_moves.specs.declared.WalkAnswer.{WalkAnswer}
 use Rattle.scion_paths.specs.Answer.{answerOut, decodedOut}
 use Rattle.scion_paths.specs.declared.ScionPathAnswer.{ScionPathAnswer}
 use Rattle.scion_paths.specs.declared.ScionPathRead.{ScionPathRead}
+use Rattle.scion_paths.specs.declared.ScionWrittenPath.{ScionWrittenPath}
 use Rattle.scion_paths.specs.declared.ScionInfoField.{ScionInfoField}
 use Rattle.scion_paths.specs.declared.ScionHopField.{ScionHopField}
 use Rattle.scion_paths.specs.declared.ScionSegment.{ScionSegment}
@@ -27,13 +29,17 @@ use Rattle.scion_paths.specs.declared.ScionInterfaceCount.{ScionInterfac
 use Rattle.scion_paths.specs.declared.ScionInterface.{ScionInterface}
 use Rattle.scion_paths.specs.declared.ScionWalk.{ScionWalk}
 
--- alert flags, moves, copies and reversals: the answer, and the record of the path
+-- alert flags and moves: the answer, and the record of the path
 unfoldable pub pathAnswerOut : PathAnswer → ScionPathAnswer
 pathAnswerOut a = record { answer = answerOut (a .answer); path = a .path }
 
 -- reading: also how many of the bytes are the path's
 unfoldable pub pathReadOut : DataplaneRead → ScionPathRead
 pathReadOut read = record { answer = decodedOut (read .answer); path = read .path; length = read .length }
+
+-- copies and reversals: also how many bytes of the destination are the path's
+unfoldable pub writtenPathOut : WrittenPath → ScionWrittenPath
+writtenPathOut written = record { answer = answerOut (written .answer); path = written .path; length = written .length }
 
 -- an info field: where it starts, and the values of its part of 8 bytes; the part of a refusal is empty, and its values are zero
 unfoldable pub infoFieldOut : List ℕ → Located → ScionInfoField

@@ -16,6 +16,7 @@ use path_fields::Interface;
 use path_interfaces::InterfaceAt;
 use path_interfaces::InterfaceCount;
 use path_moves::WalkAnswer;
+use path_reverse::WrittenPath;
 use wire_encoding::read::part_of;
 ghost use mathlib.Core.Path.{_≡_};
 ghost use Rattle.scion_paths.specs.Answer.{answerOut, decodedOut};
@@ -65,6 +66,14 @@ pub struct ScionPathAnswer {
 // A path that was read, and how many of the bytes are the path's.
 #[repr(C)]
 pub struct ScionPathRead {
+    pub answer: ScionAnswer,
+    pub path: StandardPath,
+    pub length: usize,
+}
+
+// Whether a path was written, its record, and how many bytes of the destination it is.
+#[repr(C)]
+pub struct ScionWrittenPath {
     pub answer: ScionAnswer,
     pub path: StandardPath,
     pub length: usize,
@@ -168,6 +177,19 @@ pub fn path_read_out(read: DataplaneRead) -> ScionPathRead
         answer: decoded_out(answer),
         path,
         length: read.length,
+    }
+}
+
+// A path that was written, and how many bytes of the destination it is.
+pub fn written_path_out(written: WrittenPath) -> ScionWrittenPath
+    ensures { λ r. ⌜ r ≡ spec.writtenPathOut written ⌝ }
+{
+    let answer = written.answer;
+    let path = written.path;
+    ScionWrittenPath {
+        answer: answer_out(answer),
+        path,
+        length: written.length,
     }
 }
 

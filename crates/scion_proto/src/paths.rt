@@ -15,6 +15,7 @@ use scion_paths::ScionPathRead;
 use scion_paths::ScionSegment;
 use scion_paths::ScionTimeLeft;
 use scion_paths::ScionWalk;
+use scion_paths::ScionWrittenPath;
 use scion_paths::expiry_out;
 use scion_paths::hop_field_out;
 use scion_paths::info_field_out;
@@ -25,6 +26,7 @@ use scion_paths::path_read_out;
 use scion_paths::segment_out;
 use scion_paths::time_left_out;
 use scion_paths::walk_out;
+use scion_paths::written_path_out;
 ghost use mathlib.Core.Path.{_≡_};
 ghost use Rattle.path.specs.Dataplane as dataplane;
 ghost use Rattle.path.specs.TimeLeft as left;
@@ -196,22 +198,26 @@ pub extern "C" fn scion_walk(path_type: u8, bytes: &mut [u8], limit: usize) -> S
     walk_out(walk(DataplanePath::new(path_type), bytes, limit))
 }
 
-// Copies the path to a destination of exactly its length. An empty path disregards its destination.
+// Copies the path to the front of a destination of at least its length; the bytes behind it stay as they are.
 #[no_mangle]
-pub extern "C" fn scion_copy_path(path_type: u8, bytes: &[u8], dst: &mut [u8]) -> ScionPathAnswer
-    ensures { λ r. ⌜ r ≡ spec.pathAnswerOut (dataplane.writtenAnswer «path_type» (copy.copy «path_type» (now (bytes .entry)) (now (dst .entry)))) ⌝ }
-    ensures { λ _. ⌜ now (dst .exit) ≡ dataplane.contents (copy.copy «path_type» (now (bytes .entry)) (now (dst .entry))) (now (dst .entry)) ⌝ }
+pub extern "C" fn scion_copy_path(path_type: u8, bytes: &[u8], dst: &mut [u8]) -> ScionWrittenPath
+    ensures { λ r. ⌜ r ≡ spec.writtenPathOut (copy.writtenPath «path_type» (copy.copy «path_type» (now (bytes .entry)) (now (dst .entry)))) ⌝ }
+    ensures { λ _. ⌜ now (dst .exit) ≡ copy.contentsAfter (copy.copy «path_type» (now (bytes .entry)) (now (dst .entry))) (now (dst .entry)) ⌝ }
 {
-    path_answer_out(copy_to_slice(DataplanePath::new(path_type), bytes, dst))
+    written_path_out(copy_to_slice(DataplanePath::new(path_type), bytes, dst))
 }
 
-// Writes the reply's path to a destination of exactly the path's length. An empty path disregards its destination.
+// Writes the reply's path to the front of a destination of at least the path's length; the bytes behind it stay as they are.
 #[no_mangle]
-pub extern "C" fn scion_reverse_path(path_type: u8, bytes: &[u8], dst: &mut [u8]) -> ScionPathAnswer
+pub extern "C" fn scion_reverse_path(
+    path_type: u8,
+    bytes: &[u8],
+    dst: &mut [u8],
+) -> ScionWrittenPath
     ensures { λ r. ⌜ r
-        ≡ spec.pathAnswerOut (dataplane.writtenAnswer «path_type» (reversal.reverse «path_type» (now (bytes .entry)) (now (dst .entry)))) ⌝ }
+        ≡ spec.writtenPathOut (copy.writtenPath «path_type» (reversal.reverse «path_type» (now (bytes .entry)) (now (dst .entry)))) ⌝ }
     ensures { λ _. ⌜ now (dst .exit)
-        ≡ dataplane.contents (reversal.reverse «path_type» (now (bytes .entry)) (now (dst .entry))) (now (dst .entry)) ⌝ }
+        ≡ copy.contentsAfter (reversal.reverse «path_type» (now (bytes .entry)) (now (dst .entry))) (now (dst .entry)) ⌝ }
 {
-    path_answer_out(reverse_to_slice(DataplanePath::new(path_type), bytes, dst))
+    written_path_out(reverse_to_slice(DataplanePath::new(path_type), bytes, dst))
 }

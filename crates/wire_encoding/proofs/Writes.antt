@@ -87,6 +87,12 @@ length-placed dst at run = go (room dst at (length run))
 pub placed-whole : (run dst : List ℕ) → length run ≡ length dst → placed dst 0 run ≡ run
 placed-whole run dst e = placed-is dst 0 run (length dst) e (omega arith) ∙ sets-whole run dst e
 
+-- a run of n bytes written to the front of a destination leaves what stands behind it
+pub front-written : (run dst : List ℕ) (n : ℕ) → length run ≡ n → n ≤ length dst → sets dst 0 run ≡ run ++ drop n dst
+front-written run dst n size room =
+    let end : 0 + length run ≡ n = omega arith in
+    sets-eq run dst 0 (omega arith) ∙ ap (λ (i : ℕ). run ++ drop i dst) end
+
 -- a part that was lent, with a run of its length in its place, is the run written
 pub lent-run : (run dst : List ℕ) (to k : ℕ) → length run ≡ k → to + k ≤ length dst → take to dst ++ (run ++ drop k (drop to dst)) ≡ sets dst to run
 lent-run run dst to k size room =

@@ -14,6 +14,9 @@ const LISTED: [u16; 6] = [1, 2, 3, 4, 5, 7];
 const FLIGHT: i64 = 60_000;
 const PAYLOAD: &[u8] = b"here";
 
+/// The size of the buffers that the radio driver lends, whatever is put there.
+const DRIVER_BUFFER: usize = 2304;
+
 /// Why a packet is not taken.
 enum Why {
     Refused(&'static str, Refusal),
@@ -56,10 +59,11 @@ fn has_arrived(path: &Path) -> bool {
     usize::from(path.current_hop_field) + 1 == hop_fields
 }
 
-/// The answer to a packet that has arrived: the same path back, from its destination to its source.
+/// The answer to a packet that has arrived: the same path back, from its destination to its source. The path is the
+/// front of the driver's buffer, and that front is what is sent.
 fn reply_to(packet: &Packet, path: &[u8]) -> Result<Vec<u8>, Why> {
-    let mut reply_path = vec![0; path.len()];
-    scion_proto::reverse_path(packet.path_type, path, &mut reply_path).map_err(of("reply's path"))?;
+    let mut buffer = [0; DRIVER_BUFFER];
+    let path = scion_proto::reverse_path(packet.path_type, path, &mut buffer).map_err(of("reply's path"))?.bytes;
     let ends = Ends {
         destination_ia: packet.source_ia,
         destination: packet.source,
@@ -68,7 +72,7 @@ fn reply_to(packet: &Packet, path: &[u8]) -> Result<Vec<u8>, Why> {
     };
     let headers = Headers::new(&ends, packet.path_type, path.len(), packet.next_header, PAYLOAD.len(), packet.flow_id);
     let mut reply = vec![0; headers.length(path.len())];
-    scion_proto::write_headers(&headers, &reply_path, &mut reply).map_err(of("reply"))?;
+    scion_proto::write_headers(&headers, path, &mut reply).map_err(of("reply"))?;
     reply.extend_from_slice(PAYLOAD);
     Ok(reply)
 }

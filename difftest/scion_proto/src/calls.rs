@@ -86,12 +86,12 @@ pub fn walk(path_type: u8, bytes: &mut [u8], limit: usize) -> Walk {
 }
 
 /// `scion_copy_path`.
-pub fn copy_path(path_type: u8, bytes: &[u8], dst: &mut [u8]) -> PathAnswer {
+pub fn copy_path(path_type: u8, bytes: &[u8], dst: &mut [u8]) -> WrittenPath {
     unsafe { c::scion_copy_path(path_type, bytes.as_ptr(), bytes.len(), dst.as_mut_ptr(), dst.len()) }
 }
 
 /// `scion_reverse_path`.
-pub fn reverse_path(path_type: u8, bytes: &[u8], dst: &mut [u8]) -> PathAnswer {
+pub fn reverse_path(path_type: u8, bytes: &[u8], dst: &mut [u8]) -> WrittenPath {
     unsafe { c::scion_reverse_path(path_type, bytes.as_ptr(), bytes.len(), dst.as_mut_ptr(), dst.len()) }
 }
 

@@ -31,8 +31,9 @@ unsafe extern "C" {
     ) -> PathAnswer;
     pub fn scion_move(path_type: u8, bytes: *mut u8, len: usize) -> PathAnswer;
     pub fn scion_walk(path_type: u8, bytes: *mut u8, len: usize, limit: usize) -> Walk;
-    pub fn scion_copy_path(path_type: u8, bytes: *const u8, len: usize, dst: *mut u8, dst_len: usize) -> PathAnswer;
-    pub fn scion_reverse_path(path_type: u8, bytes: *const u8, len: usize, dst: *mut u8, dst_len: usize) -> PathAnswer;
+    pub fn scion_copy_path(path_type: u8, bytes: *const u8, len: usize, dst: *mut u8, dst_len: usize) -> WrittenPath;
+    pub fn scion_reverse_path(path_type: u8, bytes: *const u8, len: usize, dst: *mut u8, dst_len: usize)
+    -> WrittenPath;
     pub fn scion_new_headers(
         destination_ia: u64,
         destination: Host,

@@ -79,14 +79,16 @@ pub fn walk(path_type: u8, bytes: &mut [u8], limit: usize) -> Result<Walk, Refus
     calls::walk(path_type, bytes, limit).result()
 }
 
-/// The path copied into a destination of its exact length.
-pub fn copy_path(path_type: u8, bytes: &[u8], dst: &mut [u8]) -> Result<Path, Refusal> {
-    Ok(calls::copy_path(path_type, bytes, dst).result()?.path)
+/// The path copied to the front of a destination of at least its length, whose other bytes stay: the record and that
+/// front.
+pub fn copy_path<'a>(path_type: u8, bytes: &[u8], dst: &'a mut [u8]) -> Result<Written<'a>, Refusal> {
+    Ok(calls::copy_path(path_type, bytes, dst).result()?.of(dst))
 }
 
-/// The reply's path, into a destination of the path's exact length.
-pub fn reverse_path(path_type: u8, bytes: &[u8], dst: &mut [u8]) -> Result<Path, Refusal> {
-    Ok(calls::reverse_path(path_type, bytes, dst).result()?.path)
+/// The reply's path at the front of a destination of at least the path's length, whose other bytes stay: the record and
+/// that front, which is what is sent.
+pub fn reverse_path<'a>(path_type: u8, bytes: &[u8], dst: &'a mut [u8]) -> Result<Written<'a>, Refusal> {
+    Ok(calls::reverse_path(path_type, bytes, dst).result()?.of(dst))
 }
 
 /// The headers and their path written into a destination of [`Headers::length`] bytes.

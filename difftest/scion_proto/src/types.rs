@@ -54,7 +54,7 @@ impl fmt::Display for Refusal {
             6 => "hop pointer",
             7 => "left-over path bytes",
             8 => "no such field or interface",
-            9 => "destination not of the exact size",
+            9 => "destination of the wrong size",
             10 => "a number too wide for its field, or a time too late",
             11 => "payload too large",
             12 => "header too large",
@@ -137,6 +137,29 @@ pub struct PathRead {
     pub answer: Answer,
     pub path: Path,
     pub length: usize,
+}
+
+/// A path that was written: the first `length` bytes of the destination, 0 for an empty path and on a refusal.
+#[repr(C)]
+#[derive(Debug, Clone, Copy, PartialEq, Eq, Default)]
+pub struct WrittenPath {
+    pub answer: Answer,
+    pub path: Path,
+    pub length: usize,
+}
+
+impl WrittenPath {
+    /// The record and the front of the destination that the path was written to.
+    pub fn of<'a>(&self, dst: &'a mut [u8]) -> Written<'a> {
+        Written { path: self.path, bytes: &mut dst[..self.length] }
+    }
+}
+
+/// The record of a path that was written, and its bytes: the front of the destination.
+#[derive(Debug, PartialEq, Eq)]
+pub struct Written<'a> {
+    pub path: Path,
+    pub bytes: &'a mut [u8],
 }
 
 /// An info field and where it starts in the path; `timestamp` in seconds since 1970.
@@ -318,7 +341,7 @@ macro_rules! answered {
 }
 
 answered! {
-    PathAnswer PathRead InfoField HopField Segment Expiry TimeLeft InterfaceCount Interface Walk Packet
+    PathAnswer PathRead WrittenPath InfoField HopField Segment Expiry TimeLeft InterfaceCount Interface Walk Packet
 }
 
 /// Checks a type's size and where its fields start, when the crate is built.
@@ -337,6 +360,7 @@ laid_out!(Part: 16 { start @ 0 len @ 8 });
 laid_out!(Host: 20 { kind @ 0 service @ 2 bytes @ 4 });
 laid_out!(PathAnswer: 24 { answer @ 0 path @ 8 });
 laid_out!(PathRead: 32 { answer @ 0 path @ 8 length @ 24 });
+laid_out!(WrittenPath: 32 { answer @ 0 path @ 8 length @ 24 });
 laid_out!(InfoField: 40 {
     answer @ 0 path @ 8 start @ 24 flags @ 32 reserved @ 33 accumulator @ 34 timestamp @ 36
 });

@@ -122,17 +122,22 @@ fn change(line: &mut Line, name: &str, oracle: &Oracle, mut bytes: Vec<u8>) -> b
     true
 }
 
-/// Calls that write to a destination, word 3.
-fn write(line: &mut Line, name: &str, oracle: &Oracle) -> bool {
+/// Calls that write to a destination, word 3: the record and its expiry where the line is on records, how many bytes of
+/// the destination are the path, and what it holds then.
+pub fn write(line: &mut Line, name: &str, oracle: &Oracle) -> bool {
     let mut dst = line.bytes(3);
-    let (answer, source) = match name {
-        "copy" => oracle.copy_path(&mut dst),
-        "turn" => oracle.reverse_path(&mut dst),
+    let (written, source) = match name {
+        "copy" | "recordcopy" => oracle.copy_path(&mut dst),
+        "turn" | "recordturn" => oracle.reverse_path(&mut dst),
         _ => return false,
     };
     line.source = source;
-    add_answer(line, answer.answer);
-    line.add_bytes(&dst);
+    add_answer(line, written.answer);
+    if name.starts_with("record") {
+        add_record(line, written.path);
+        line.add(written.path.expiry);
+    }
+    line.add(written.length).add_bytes(&dst);
     true
 }
 

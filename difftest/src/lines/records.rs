@@ -3,7 +3,7 @@
 use scion_proto::{Answer, Path};
 
 use super::Line;
-use super::paths::{add_answer, add_record};
+use super::paths::{add_answer, add_record, write};
 use crate::model;
 use crate::oracle::packet;
 use crate::oracle::path::Oracle;
@@ -51,7 +51,7 @@ fn read(line: &mut Line, name: &str, oracle: &Oracle) -> bool {
     true
 }
 
-/// Calls that change the bytes, and those that write to a destination, word 3: the record, and what the bytes are then.
+/// Calls that change the bytes: the record, and what the bytes are then.
 fn change(line: &mut Line, name: &str, oracle: &Oracle, mut bytes: Vec<u8>) -> bool {
     let (answer, path) = match name {
         "recordalert" => {
@@ -68,13 +68,6 @@ fn change(line: &mut Line, name: &str, oracle: &Oracle, mut bytes: Vec<u8>) -> b
             let left = model::walk(oracle, &mut bytes, line.index(3));
             (left.answer, left.path)
         }
-        "recordcopy" | "recordturn" => {
-            bytes = line.bytes(3);
-            let is_copy = name == "recordcopy";
-            let (left, source) = if is_copy { oracle.copy_path(&mut bytes) } else { oracle.reverse_path(&mut bytes) };
-            line.source = source;
-            (left.answer, left.path)
-        }
         _ => return false,
     };
     add_left(line, answer, path);
@@ -87,7 +80,7 @@ fn on_path(line: &mut Line, name: &str) -> bool {
     let bytes = line.bytes(2);
     let oracle = Oracle::new(line.byte(1), &bytes);
     line.source = oracle.source();
-    read(line, name, &oracle) || change(line, name, &oracle, bytes.clone())
+    read(line, name, &oracle) || change(line, name, &oracle, bytes.clone()) || write(line, name, &oracle)
 }
 
 /// Calls on a record of zeros and the expiry in word 1: `recordexp e`, and `recordleft e now`.

@@ -4,10 +4,13 @@ use std::cell::OnceCell;
 
 use bytes::Bytes;
 use scion_proto::{
-    Answer, Expiry, HopField, InfoField, Interface, InterfaceCount, Part, Path, PathAnswer, PathRead, Segment, TimeLeft,
+    Answer, Expiry, HopField, InfoField, Interface, InterfaceCount, Part, Path, PathAnswer, PathRead, Segment,
+    TimeLeft, WrittenPath,
 };
+use scion_rs::address::IsdAsn;
+use scion_rs::packet::ByEndpoint;
 use scion_rs::path::standard::{HopField as RustHopField, InfoField as RustInfoField, Segment as RustSegment};
-use scion_rs::path::{DataplanePath, PathType, StandardPath};
+use scion_rs::path::{DataplanePath, Path as RustPath, PathType, StandardPath};
 use scion_rs::wire_encoding::WireDecodeWithContext;
 
 use super::{ACCEPTED, Refused, expiry_of, lend, number_of, offset, panics, record, record_with, refusal};
@@ -238,34 +241,71 @@ impl<'a> Oracle<'a> {
         Ok(PathAnswer { answer: ACCEPTED, path: record_with(copy.meta_header(), expiry_of(&copy)) })
     }
 
-    /// The path copied to `dst`.
-    pub fn copy_path(&self, dst: &mut [u8]) -> Expected<PathAnswer> {
-        self.into_destination(dst, |path, dst| written(&path.copy_to_slice(dst)))
-    }
-
-    /// The path turned into `dst`.
-    pub fn reverse_path(&self, dst: &mut [u8]) -> Expected<PathAnswer> {
-        self.into_destination(dst, |path, dst| written(&path.reverse_to_slice(dst)))
-    }
-
-    /// A call on a destination: where the Rust panics, the size was wrong, and nothing is to change.
-    fn into_destination(
-        &self,
-        dst: &mut [u8],
-        call: impl Fn(&DataplanePath<Bytes>, &mut [u8]) -> PathAnswer,
-    ) -> Expected<PathAnswer> {
-        let path = match &self.read {
+    /// The path copied to the front of `dst`. The Rust has no copy that cuts the front: it is seen to panic at a longer
+    /// destination, whose front is to be what it writes into as many bytes as the path has.
+    pub fn copy_path(&self, dst: &mut [u8]) -> Expected<WrittenPath> {
+        let path = match self.with_room(dst, &[copied]) {
             Ok(path) => path,
-            Err(answer) => return (PathAnswer::refused(*answer), Source::Rust),
+            Err(expected) => return expected,
         };
-        let is_exact = path.is_empty() || dst.len() == path.raw().len();
-        if is_exact {
-            return (call(path, dst), Source::Rust);
+        if path.is_empty() || dst.len() == path.raw().len() {
+            return (copied(path, dst), Source::Rust);
         }
-        let mut lost = dst.to_vec();
-        assert!(panics(|| _ = call(path, &mut lost)), "the Rust took a destination of another size");
-        (PathAnswer::refused(refusal(9)), Source::Excepted(Exception::PanickingSize))
+        see_panic(copied, path, dst);
+        (copied(path, &mut dst[..path.raw().len()]), Source::Excepted(Exception::PanickingSize))
     }
+
+    /// The path turned into the front of `dst`, which the Rust cuts itself; at the exact size its two turns agree.
+    pub fn reverse_path(&self, dst: &mut [u8]) -> Expected<WrittenPath> {
+        let path = match self.with_room(dst, &[turned, turned_into_front]) {
+            Ok(path) => path,
+            Err(expected) => return expected,
+        };
+        if dst.len() > path.raw().len() {
+            return (turned_into_front(path, dst), Source::Rust);
+        }
+        let mut front = dst.to_vec();
+        let expected = turned(path, dst);
+        assert_eq!(turned_into_front(path, &mut front), expected, "the Rust's two turns differ");
+        assert_eq!(front, dst, "the Rust's two turns write other bytes");
+        (expected, Source::Rust)
+    }
+
+    /// The path, where it was read and the destination has room for it. Where it has not, these forms of the Rust are
+    /// seen to panic, and nothing is to change.
+    fn with_room(&self, dst: &[u8], forms: &[Form]) -> Result<&DataplanePath, Expected<WrittenPath>> {
+        let path = self.read.as_ref().map_err(|answer| (WrittenPath::refused(*answer), Source::Rust))?;
+        if dst.len() >= path.raw().len() {
+            return Ok(path);
+        }
+        forms.iter().for_each(|form| see_panic(*form, path, dst));
+        Err((WrittenPath::refused(refusal(9)), Source::Excepted(Exception::PanickingSize)))
+    }
+}
+
+/// A form in which the Rust writes a path to a destination.
+type Form = fn(&DataplanePath, &mut [u8]) -> WrittenPath;
+
+/// The Rust's copy, into just as many bytes as the path has.
+fn copied(path: &DataplanePath, dst: &mut [u8]) -> WrittenPath {
+    written(&path.copy_to_slice(dst))
+}
+
+/// The Rust's turn into just as many bytes as the path has.
+fn turned(path: &DataplanePath, dst: &mut [u8]) -> WrittenPath {
+    written(&path.reverse_to_slice(dst))
+}
+
+/// The Rust's turn that cuts the front of a destination itself; the networks at the path's ends are turned beside it.
+fn turned_into_front(path: &DataplanePath, dst: &mut [u8]) -> WrittenPath {
+    let ends = ByEndpoint::with_cloned(IsdAsn::WILDCARD);
+    written(&RustPath::new(path.clone(), ends, None).reverse_to_slice(dst).dataplane_path)
+}
+
+/// Sees a form of the Rust panic at a destination of this size.
+fn see_panic(form: Form, path: &DataplanePath, dst: &[u8]) {
+    let mut lost = dst.to_vec();
+    assert!(panics(|| _ = form(path, &mut lost)), "the Rust took a destination of another size");
 }
 
 /// A hop field's ingress and egress by direction, and its expiry, by the Rust's own calls.
@@ -275,9 +315,9 @@ pub fn derived(field: &RustHopField, info: &RustInfoField) -> (u16, u16, i64) {
     (ingress, egress, field.expiry_time(info).timestamp_millis())
 }
 
-/// Accepted, with the record of the path that the Rust has written.
-fn written(path: &DataplanePath<&mut [u8]>) -> PathAnswer {
-    PathAnswer { answer: ACCEPTED, path: record(path) }
+/// Accepted, with the record and the length of the path that the Rust has written.
+fn written(path: &DataplanePath<&mut [u8]>) -> WrittenPath {
+    WrittenPath { answer: ACCEPTED, path: record(path), length: path.raw().len() }
 }
 
 /// The answer, or its refusal in the same shape.

@@ -1,14 +1,15 @@
 -- `copy_to_slice` meets its contract: reading, then the size, then the bytes; a copy is read as the path was.
-use mathlib.Core.Path.{_≡_, refl, sym, _∙_}
+use Prim.Native.Nat.{ℕ}
+use mathlib.Core.Path.{_≡_, refl, _∙_}
+use mathlib.Core.List.{List}
+use native.Mathlib.Omega.{arith}
 use lib.ListN.{length, take}
 use lib.Seq.{length-take-le}
-use borrow.Author.Tests.{eq-eqb}
-use Rattle.wire_encoding.proofs.Writes.{placed-whole}
-use Rattle.path.specs.Dataplane.{writtenAnswer}
+use Rattle.wire_encoding.proofs.Writes.{placed-is, front-written}
 use Rattle.path.proofs.Reading.{length-inside, read-ok, read-refused, path-given}
-use Rattle.path_reverse.specs.Copy.{into, copy}
-use Rattle.path_reverse.proofs.Copy.{into-exact, into-other}
-use Rattle.path_reverse.proofs.Expiry.{path-copied, path-empty}
+use Rattle.path_reverse.specs.Copy.{copy, writtenPath}
+use Rattle.path_reverse.proofs.Copy.{into-enough, into-fewer, front-run}
+use Rattle.path_reverse.proofs.Expiry.{path-copied}
 use borrow.Author.Needs.{needs}
 use Rattle.path_reverse.proofs.copy_to_slice.Statement.{statement}
 use Rattle.path_reverse.proofs.copy_to_slice.Tie as tie
@@ -22,45 +23,36 @@ run-length c =
     length-take-le _ _ (rw (← c .before .before .decode .ensures .0) at (length-inside (a .bytes .now) (a .path .«path_type»)))
 
 returns : tie.Need-returns
-unfolding copy writtenAnswer
+unfolding copy writtenPath
 returns c =
     let told = c .before .before in
-    rw (read-refused _ (told .before .before .decode .ensures .0) (told .answer .given .1)) (c .not-read .ensures, refl)
+    rw (read-refused _ (told .before .before .decode .ensures .0) (told .answer .given .1)) (c .refused .ensures, refl)
 
 returns-2 : tie.Need-returns-2
-unfolding copy into writtenAnswer
+unfolding copy writtenPath
 returns-2 c =
-    let told = c .before .before .before in
-    let decode = told .before .before .decode .ensures .0 in
-    let empty = c .before .if1 .taken in
-    let a = told .before .before .before .before .before .args in
-    rw (read-ok _ decode (told .enum-told .given .1), eq-eqb _ 0 empty, path-empty _ (a .bytes .now) (a .dst .now) empty, ← path-given _ _ decode)
-    (c .accepted .ensures, refl)
-
-returns-3 : tie.Need-returns-3
-unfolding copy writtenAnswer
-returns-3 c =
     let size = c .before in
-    let some = size .before .before in
-    let told = some .before .before in
+    let told = size .before .before in
     let read = read-ok _ (told .before .before .decode .ensures .0) (told .enum-told .given .1) in
     let a = told .before .before .before .before .before .args in
-    let run = take (told .before .before .decode .result .length) (a .bytes .now) in
-    rw (read, into-other _ (some .if1 .left) run (a .dst .now) (λ e. size .if2 .taken (e ∙ run-length told))) (c .refused .ensures, refl)
+    rw (read, into-fewer _ (a .dst .now) (run-length told) (size .if1 .taken)) (c .refused2 .ensures, refl)
 
-returns-4 : tie.Need-returns-4
-unfolding copy writtenAnswer
-returns-4 c =
+returns-3 : tie.Need-returns-3
+unfolding copy writtenPath
+returns-3 c =
     let put = c .before .before .before in
     let size = put .before .before .before in
-    let some = size .before .before in
-    let told = some .before .before in
+    let told = size .before .before in
     let decode = told .before .before .decode .ensures .0 in
     let read = read-ok _ decode (told .enum-told .given .1) in
-    let exact = size .if2 .left ∙ sym (run-length told) in
-    let whole = placed-whole _ _ (sym exact) in
-    rw (read, into-exact _ (some .if1 .left) _ _ exact, path-copied _ _ read, ← path-given _ _ decode)
-    (c .accepted2 .ensures, rw (put .before .part-of .ensures) at (put .put-slice .ensures .1) ∙ whole)
+    let a = told .before .before .before .before .before .args in
+    let n : ℕ = told .before .before .decode .result .length in
+    let run : List ℕ = take n (a .bytes .now) in
+    let long = run-length told in
+    let room = size .if1 .left in
+    let written = placed-is (a .dst .now) 0 run n long (omega (arith, room)) ∙ front-written run (a .dst .now) n long room in
+    rw (read, into-enough run (a .dst .now) long room, front-run run (a .dst .now) long, path-copied _ _ read, ← path-given _ _ decode)
+    (c .accepted .ensures, rw (put .before .part-of .ensures) at (put .put-slice .ensures .1) ∙ written)
 
 pub copy-to-slice-spec : {M : Type 1} → statement M
 copy-to-slice-spec =
@@ -70,7 +62,5 @@ copy-to-slice-spec =
     returns
     (λ c. search needs) (λ c κs. search needs)
     returns-2
-    (λ c κs. search needs)
-    returns-3
     (λ c κs. search needs) (λ c κs. search needs) (λ c κs. search needs) (λ c. search needs)
-    returns-4)
+    returns-3)

@@ -1,6 +1,5 @@
 -- `expiry_time` of a record meets its contract: the stored number, as it is.
 use mathlib.Core.Path.{refl}
-use borrow.Author.Needs.{needs}
 use Rattle.path.proofs.standard.StandardPath.expiry_time.Statement.{statement}
 use Rattle.path.proofs.standard.StandardPath.expiry_time.Tie as tie
 
