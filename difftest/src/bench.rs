@@ -180,13 +180,9 @@ fn expiry_row(inputs: &Inputs) -> Loops {
     Loops { rust: Some(rust), plain: Some(plain), ours }
 }
 
-/// Paths read and turned.
-fn turn_row(inputs: &Inputs) -> Loops {
-    let rooms = [(); 3].map(|()| vec![0; inputs.shape.bytes()]);
-    let [mut rust_room, mut plain_room, mut room] = rooms;
-    let rust = over(kept(&inputs.paths), move |bytes| {
-        black_box(rust_path(bytes).reverse_to_slice(black_box(&mut rust_room)));
-    });
+/// Paths read and turned into a destination of so many bytes, beside the Rust's loop.
+fn turn_loops(inputs: &Inputs, size: usize, rust: Loop) -> Loops {
+    let [mut plain_room, mut room] = [(); 2].map(|()| vec![0; size]);
     let plain = over(inputs.paths.clone(), move |bytes| {
         black_box(plain::reverse_path(1, bytes, black_box(&mut plain_room)));
     });
@@ -194,6 +190,26 @@ fn turn_row(inputs: &Inputs) -> Loops {
         black_box(calls::reverse_path(1, bytes, black_box(&mut room)));
     });
     Loops { rust: Some(rust), plain: Some(plain), ours }
+}
+
+/// Paths read and turned into just as many bytes.
+fn turn_row(inputs: &Inputs) -> Loops {
+    let size = inputs.shape.bytes();
+    let mut room = vec![0; size];
+    let rust = over(kept(&inputs.paths), move |bytes| {
+        black_box(rust_path(bytes).reverse_to_slice(black_box(&mut room)));
+    });
+    turn_loops(inputs, size, rust)
+}
+
+/// Paths read and turned into the front of a driver's buffer, which the Rust cuts itself.
+fn buffer_row(inputs: &Inputs) -> Loops {
+    let mut room = vec![0; shapes::DRIVER_BUFFER];
+    let ends = ByEndpoint::with_cloned(IsdAsn::WILDCARD);
+    let rust = over(kept(&inputs.paths), move |bytes| {
+        black_box(Path::new(rust_path(bytes), ends, None).reverse_to_slice(black_box(&mut room)));
+    });
+    turn_loops(inputs, shapes::DRIVER_BUFFER, rust)
 }
 
 /// The ends of the headers that are written: IPv4 hosts.
@@ -257,13 +273,14 @@ fn walk_row(inputs: &Inputs) -> Loops {
 type Maker = fn(&Inputs) -> Loops;
 
 /// The calls.
-const CALLS: [(&str, Maker); 9] = [
+const CALLS: [(&str, Maker); 10] = [
     ("packet decode", packet_row),
     ("packet decode, then expiry", packet_expiry_row),
     ("path decode", path_row),
     ("path decode, then expiry", path_expiry_row),
     ("expiry", expiry_row),
     ("turn", turn_row),
+    ("turn into 2,304 bytes", buffer_row),
     ("header writing", write_row),
     ("single move", move_row),
     ("walk to the end", walk_row),
