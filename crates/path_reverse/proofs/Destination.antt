@@ -42,7 +42,8 @@ none l h = sym (take-all 0 l (omega arith))
 record Writes (call : Call) (written : Bytes) : Type 0 where
   made : (type : ℕ) (bytes dst : List ℕ)
       → call type bytes dst ≡ andThen (refusing Decode (readDataplane type bytes)) (λ (read : Extent). into (written type read bytes) dst)
-  long : (type : ℕ) (bytes : List ℕ) (read : Extent) → readDataplane type bytes ≡ ok read → length (written type read bytes) ≡ read .length
+  long : (type : ℕ) (bytes : List ℕ) (read : Extent) → readDataplane type bytes ≡ ok read
+      → length (written type read bytes) ≡ read .length
   header : PathMetaHeader → PathMetaHeader
   there : (bytes : List ℕ) (read : Extent) → readDataplane 1 bytes ≡ ok read
       → Readable (written 1 read bytes) (header (read .path .«meta_header»))
@@ -60,14 +61,16 @@ module _ (call : Call) (written : Bytes) (c : Writes call written) where
   unfolding readDataplane
   empty bytes dst =
       enough 0 bytes dst (unread 0) refl (omega arith)
-      ∙ ap (λ (run : List ℕ). ok (record { length = 0; left = run ++ dst })) (none (written 0 (unread 0) bytes) (c .long 0 bytes (unread 0) refl))
+      ∙ ap (λ (run : List ℕ). ok (record { length = 0; left = run ++ dst }))
+      (none (written 0 (unread 0) bytes) (c .long 0 bytes (unread 0) refl))
 
   -- what was accepted was written by `into`
-  by-into : (type : ℕ) (bytes dst : List ℕ) (read : Extent) {w : Written} → readDataplane type bytes ≡ ok read → call type bytes dst ≡ ok w
-      → into (written type read bytes) dst ≡ ok w
+  by-into : (type : ℕ) (bytes dst : List ℕ) (read : Extent) {w : Written} → readDataplane type bytes ≡ ok read
+      → call type bytes dst ≡ ok w → into (written type read bytes) dst ≡ ok w
   by-into type bytes dst read h done = rw h at (sym (c .made type bytes dst) ∙ done)
 
-  in-front : (type : ℕ) (bytes dst : List ℕ) (read : Extent) (w : Written) → readDataplane type bytes ≡ ok read → call type bytes dst ≡ ok w
+  in-front : (type : ℕ) (bytes dst : List ℕ) (read : Extent) (w : Written) → readDataplane type bytes ≡ ok read
+      → call type bytes dst ≡ ok w
       → (front w ≡ written type read bytes) × (drop (w .length) (w .left) ≡ drop (w .length) dst) × (length (w .left) ≡ length dst)
   in-front type bytes dst read w h done =
       let run : List ℕ = written type read bytes in
@@ -81,8 +84,8 @@ module _ (call : Call) (written : Bytes) (c : Writes call written) where
     abbrev Alike : Result PathError Written → Result PathError (List ℕ) → Type 0
     Alike r s = (withoutLength (writtenPath type r) ≡ writtenAnswer type s) × (contentsAfter r dst ≡ contents s dst)
 
-    alike : {r : Result PathError Written} {s : Result PathError (List ℕ)} → call type bytes dst ≡ r → exactly written type bytes dst ≡ s → Alike r s
-        → Alike (call type bytes dst) (exactly written type bytes dst)
+    alike : {r : Result PathError Written} {s : Result PathError (List ℕ)} → call type bytes dst ≡ r
+        → exactly written type bytes dst ≡ s → Alike r s → Alike (call type bytes dst) (exactly written type bytes dst)
     alike e f same = rw (e, f) same
 
     both-refused : (error : PathError) → Alike (refused error) (refused error)
@@ -167,7 +170,8 @@ module _ (call : Call) (written : Bytes) (c : Writes call written) where
 -- THE TWO CALLS
 
 -- reading says no more bytes than there are
-own-long : (type : ℕ) (bytes : List ℕ) (read : Extent) → readDataplane type bytes ≡ ok read → length (ownBytes type read bytes) ≡ read .length
+own-long : (type : ℕ) (bytes : List ℕ) (read : Extent) → readDataplane type bytes ≡ ok read
+    → length (ownBytes type read bytes) ≡ read .length
 unfolding dataplaneRead
 own-long type bytes read h = length-take-le (read .length) bytes (rw h at (length-inside bytes type))
 
@@ -176,7 +180,8 @@ reversed-long : (type : ℕ) (bytes : List ℕ) (read : Extent) → readDataplan
 unfolding reversedBytes
 reversed-long type bytes read h = go (eqb type 1) refl
   where
-    go : (t : Bool) → eqb type 1 ≡ t → length (cond t (reversedPath (read .path .«meta_header») bytes) (take (read .length) bytes)) ≡ read .length
+    go : (t : Bool) → eqb type 1 ≡ t
+        → length (cond t (reversedPath (read .path .«meta_header») bytes) (take (read .length) bytes)) ≡ read .length
     go true e =
         let s = standard bytes (rw (eqb-true type 1 e) at h) in
         length-reversedPath (read .path .«meta_header») bytes (s .known .whole) ∙ sym (s .long)

@@ -191,7 +191,8 @@ copy-keeps-expiry bytes dst left h =
     let r = s .known in
     let own : List ℕ = take (pathLength m) bytes in
     let made : own ≡ left =
-    ap (λ (n : ℕ). take n bytes) (sym (s .long)) ∙ sym (front-is (take (read .value .length) bytes) dst (read .then)) ∙ same-value (call .then) in
+    ap (λ (n : ℕ). take n bytes) (sym (s .long))
+    ∙ sym (front-is (take (read .value .length) bytes) dst (read .then)) ∙ same-value (call .then) in
     keeps bytes own m m r (copied-readable bytes m r) (expiry-copied bytes m r) (mapped front (copy 1 bytes dst)) (h ∙ ap ok (sym made)) left h
 
 pub reversal-keeps-expiry : ReversalKeepsExpiry

@@ -46,7 +46,8 @@ withoutLength w = record { answer = w .answer; path = w .path }
 
 pub record Destinations (call : Call) (written : Bytes) : Type 0 where
   -- what is written has as many bytes as were read
-  pub long : (type : ℕ) (bytes : List ℕ) (read : Extent) → readDataplane type bytes ≡ ok read → length (written type read bytes) ≡ read .length
+  pub long : (type : ℕ) (bytes : List ℕ) (read : Extent) → readDataplane type bytes ≡ ok read
+      → length (written type read bytes) ≡ read .length
   -- "A turn or copy into more bytes than needed now succeeds, writing the front and leaving the remainder"
   pub enough : (type : ℕ) (bytes dst : List ℕ) (read : Extent) → readDataplane type bytes ≡ ok read → read .length ≤ length dst
       → call type bytes dst ≡ ok (record { length = read .length; left = written type read bytes ++ drop (read .length) dst })
@@ -60,7 +61,8 @@ pub record Destinations (call : Call) (written : Bytes) : Type 0 where
       → (withoutLength (writtenPath type (call type bytes dst)) ≡ writtenAnswer type (exactly written type bytes dst))
       × (contentsAfter (call type bytes dst) dst ≡ contents (exactly written type bytes dst) dst)
   -- the front is the path that is written, nothing changes behind it, and the destination keeps its length
-  pub in-front : (type : ℕ) (bytes dst : List ℕ) (read : Extent) (w : Written) → readDataplane type bytes ≡ ok read → call type bytes dst ≡ ok w
+  pub in-front : (type : ℕ) (bytes dst : List ℕ) (read : Extent) (w : Written) → readDataplane type bytes ≡ ok read
+      → call type bytes dst ≡ ok w
       → (front w ≡ written type read bytes) × (drop (w .length) (w .left) ≡ drop (w .length) dst) × (length (w .left) ≡ length dst)
   -- the destination as a whole is read as the front is
   pub read-whole : (bytes dst : List ℕ) (w : Written) → call 1 bytes dst ≡ ok w → readRecord (w .left) ≡ readRecord (front w)

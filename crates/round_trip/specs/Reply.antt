@@ -59,7 +59,8 @@ ReplyMirror =
 -- the reply walked to its last hop field and reversed, into any destination that has room for it, is the path
 abbrev pub ReplyReversed : Type 0
 ReplyReversed =
-    (b : List ℕ) → Begun b → (dst : List ℕ) → length b ≤ length dst → mapped front (reverse 1 (walked 1 (reply b) (hopCount b - 1)) dst) ≡ ok b
+    (b : List ℕ) → Begun b → (dst : List ℕ) → length b ≤ length dst
+    → mapped front (reverse 1 (walked 1 (reply b) (hopCount b - 1)) dst) ≡ ok b
 
 -- THE TRIP
 

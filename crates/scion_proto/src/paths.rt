@@ -201,8 +201,10 @@ pub extern "C" fn scion_walk(path_type: u8, bytes: &mut [u8], limit: usize) -> S
 // Copies the path to the front of a destination of at least its length; the bytes behind it stay as they are.
 #[no_mangle]
 pub extern "C" fn scion_copy_path(path_type: u8, bytes: &[u8], dst: &mut [u8]) -> ScionWrittenPath
-    ensures { λ r. ⌜ r ≡ spec.writtenPathOut (copy.writtenPath «path_type» (copy.copy «path_type» (now (bytes .entry)) (now (dst .entry)))) ⌝ }
-    ensures { λ _. ⌜ now (dst .exit) ≡ copy.contentsAfter (copy.copy «path_type» (now (bytes .entry)) (now (dst .entry))) (now (dst .entry)) ⌝ }
+    ensures { λ r. ⌜ r
+        ≡ spec.writtenPathOut (copy.writtenPath «path_type» (copy.copy «path_type» (now (bytes .entry)) (now (dst .entry)))) ⌝ }
+    ensures { λ _. ⌜ now (dst .exit)
+        ≡ copy.contentsAfter (copy.copy «path_type» (now (bytes .entry)) (now (dst .entry))) (now (dst .entry)) ⌝ }
 {
     written_path_out(copy_to_slice(DataplanePath::new(path_type), bytes, dst))
 }
