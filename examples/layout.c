@@ -88,6 +88,34 @@ static bool are_ee(const uint8_t *bytes, size_t n) {
     return true;
 }
 
+/* Interfaces of two segments of two hop fields: with peering on both, the link between them has two; with peering on one, there is no
+ * such link. Hop field j has construction ingress 2j + 1 and construction egress 2j + 2. */
+static void peering_interfaces(void) {
+    static const uint16_t both[] = {1, 4, 3, 5, 6, 7}, one[] = {1, 4, 6, 7};
+    uint8_t path[68] = {0x00, 0x00, 0x20, 0x80, [4] = 0x02, [12] = 0x03};
+    for (uint8_t j = 0; j < 4; j++) {
+        path[20 + 12 * j + 3] = (uint8_t)(2 * j + 1);
+        path[20 + 12 * j + 5] = (uint8_t)(2 * j + 2);
+    }
+    ScionInterfaceCount count = scion_interfaces_count(1, path, sizeof path);
+    CHECK(count.answer.number == 0 && count.count == 6);
+    for (size_t i = 0; i < 6; i++) {
+        ScionInterface found = scion_interface(1, path, sizeof path, i);
+        CHECK(found.answer.number == 0 && found.hop_field == (i + 1) / 2 && found.id == both[i]);
+    }
+    ScionInterface none = scion_interface(1, path, sizeof path, 6);
+    CHECK(none.answer.number == SCION_NO_SUCH_FIELD && is_zero(none.path) && none.hop_field == 0 && none.id == 0);
+    CHECK(scion_interface(1, path, sizeof path, SIZE_MAX).answer.number == SCION_NO_SUCH_FIELD);
+    path[12] = 0x01;
+    count = scion_interfaces_count(1, path, sizeof path);
+    CHECK(count.answer.number == 0 && count.count == 4);
+    for (size_t i = 0; i < 4; i++) {
+        ScionInterface found = scion_interface(1, path, sizeof path, i);
+        CHECK(found.answer.number == 0 && found.hop_field == i && found.id == one[i]);
+    }
+    CHECK(scion_interface(1, path, sizeof path, 4).answer.number == SCION_NO_SUCH_FIELD);
+}
+
 int main(void) {
     static uint8_t b[1000], path[1000], dst[2304];
     size_t len = build(path, 1, 2, 3, 2, 4);
@@ -115,6 +143,7 @@ int main(void) {
     CHECK(ok(count.answer, count.path, 4) && count.count == 6);
     ScionInterface interface = scion_interface(1, path, len, 3);
     CHECK(ok(interface.answer, interface.path, 4) && interface.hop_field == 4 && interface.id == 0x8E8F);
+    peering_interfaces();
     memcpy(b, path, len);
     ScionPathAnswer moved = scion_move(1, b, len);
     CHECK(ok(moved.answer, moved.path, 5));

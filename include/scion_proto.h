@@ -27,7 +27,7 @@
 #include <stdint.h>
 
 /* Raised whenever a struct or a call changes. Header and archive have to be of one commit; examples/layout.c checks that they agree. */
-#define SCION_PROTO_VERSION 3
+#define SCION_PROTO_VERSION 4
 
 #ifdef __cplusplus
 extern "C" {
@@ -253,7 +253,8 @@ ScionPathRead scion_read_path(uint8_t path_type, const uint8_t *bytes, size_t le
 /* Views of a standard path. `index` counts info fields, hop fields, segments or interfaces from 0; 8 where there is none.
  * A segment's expiry is the least of its hop fields', a path's the least of its segments'. `now` is in ms since 1970, at most
  * SCION_MAX_NOW. Interfaces come in the order of travel: an even index is the one by which the packet leaves a network, the odd one
- * after it that by which it enters the next. */
+ * after it that by which it enters the next. Every link of the path is among them: those inside a segment and, where the path has two
+ * segments and peering is set on both, the one between the segments; other segments meet inside one network, without a link. */
 ScionInfoField scion_info_field(uint8_t path_type, const uint8_t *bytes, size_t len, size_t index);
 ScionHopField scion_hop_field(uint8_t path_type, const uint8_t *bytes, size_t len, size_t index);
 ScionSegment scion_segment(uint8_t path_type, const uint8_t *bytes, size_t len, size_t index);

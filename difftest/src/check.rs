@@ -184,7 +184,7 @@ impl Checker {
 
     /// How many interfaces there are.
     pub fn interfaces_count(&mut self, input: Input, oracle: &Oracle) {
-        let expected = (oracle.interfaces_count(), oracle.source());
+        let expected = oracle.interfaces_count();
         self.reading(Call::InterfacesCount, input, (), expected, |bytes| {
             calls::interfaces_count(input.path_type, bytes)
         });

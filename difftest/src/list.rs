@@ -310,6 +310,7 @@ fn viewed(random: &mut Random, subject: &mut Subject) {
             subject.call(format!("left 1 {text} {now}"));
         }
     }
+    interfaces(subject);
     changed(random, subject);
     subject.note("Other types get 8 straight after reading; unread paths get the reading's number.");
     for (path_type, bytes) in
@@ -325,6 +326,48 @@ fn viewed(random: &mut Random, subject: &mut Subject) {
         subject.call(format!("alert {path_type} {bytes} 9 1 1"));
         subject.call(format!("copy {path_type} {bytes} eeee"));
         subject.call(format!("turn {path_type} {bytes} eeee"));
+    }
+}
+
+/// Interfaces of peering paths, by request 2026-03, and of other paths that have peering set.
+fn interfaces(subject: &mut Subject) {
+    subject.note("Interfaces of peering paths, by request 2026-03's text: every index, and ones beyond the count.");
+    for (lengths, bits) in [
+        ([1, 1, 0], 0b10_11),
+        ([1, 2, 0], 0b11_10),
+        ([2, 2, 0], 0b10_10),
+        ([2, 2, 0], 0b10_11),
+        ([2, 2, 0], 0b11_10),
+        ([2, 2, 0], 0b11_11),
+    ] {
+        every_interface(subject, &sample(lengths, bits, 0, 0));
+    }
+    let mut longest = sample_zeros([63, 63, 0]);
+    for at in [4, 12] {
+        longest[at] = 2;
+    }
+    subject.call(format!("ifcount 1 {}", word(&longest)));
+    for index in [0, 124, 125, 249, 250, usize::MAX] {
+        subject.call(format!("iface 1 {} {index}", word(&longest)));
+    }
+    subject.note("Interfaces with peering on one of two segments, on a single one, and on all of three: the Rust's.");
+    for (lengths, bits) in [
+        ([2, 2, 0], 0b01_10),
+        ([2, 2, 0], 0b10_01),
+        ([2, 0, 0], 0b11),
+        ([2, 2, 2], 0b10_11_10),
+        ([1, 1, 1], 0b11_11_11),
+    ] {
+        every_interface(subject, &sample(lengths, bits, 0, 0));
+    }
+}
+
+/// How many interfaces a sample has, and each of them; the indexes go beyond the count.
+fn every_interface(subject: &mut Subject, bytes: &[u8]) {
+    let text = word(bytes);
+    subject.call(format!("ifcount 1 {text}"));
+    for index in (0..=2 * sample_hop_fields(bytes)).chain([1 << 63, usize::MAX]) {
+        subject.call(format!("iface 1 {text} {index}"));
     }
 }
 

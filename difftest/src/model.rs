@@ -1,16 +1,17 @@
 //! Document 01's rules for what the Rust lacks or leaves open, written from its text alone: moves, walks,
-//! accumulators by a path alone, when a path expires that a move left, the times of a record (request 2026-01), what
-//! an end holds after an arrival (request 2026-08), and the writing of headers that the Rust can't build.
+//! accumulators by a path alone, when a path expires that a move left, the times of a record (request 2026-01), the
+//! interfaces of a peering path (request 2026-03), what an end holds after an arrival (request 2026-08), and the
+//! writing of headers that the Rust can't build.
 
 use std::cell::Cell;
 
-use scion_proto::{Answer, Ends, Headers, Host, Path, PathAnswer, TimeLeft, Walk};
+use scion_proto::{Answer, Ends, Headers, Host, Interface, InterfaceCount, Path, PathAnswer, TimeLeft, Walk};
 
 use crate::oracle::path::{LATEST_NOW, Oracle};
 use crate::oracle::{ACCEPTED, Refused, refusal};
 
-/// A plausible wrong rule of moving, of times or of arrivals, put in the right one's place to see that the run's inputs
-/// tell them apart.
+/// A plausible wrong rule of moving, of interfaces, of times or of arrivals, put in the right one's place to see that
+/// the run's inputs tell them apart.
 #[derive(Debug, Clone, Copy, PartialEq)]
 pub enum Twist {
     None,
@@ -27,6 +28,14 @@ pub enum Twist {
     SixtyFiveAreNotTooMany,
     PeeringOnOneIsFine,
     PeeringOnBothIsNotFine,
+    PeeringLinkIsNotCounted,
+    OuterInterfacesAreCounted,
+    PeeringOnOneIsALink,
+    PeeringOnThreeIsALink,
+    HopFieldIsRoundedDown,
+    PeeringLinkIsTurned,
+    PeeringLinkHasOneDirection,
+    LargestIndexWrapsAround,
     ExpiryOfTheFirstHopFieldOnly,
     ExpiryOfTheFirstSegmentOnly,
     ExpiryOfTheLastSegmentOnly,
@@ -45,7 +54,7 @@ pub enum Twist {
 }
 
 /// All the wrong rules.
-pub const TWISTS: [Twist; 28] = [
+pub const TWISTS: [Twist; 36] = [
     Twist::OwnerIsAlwaysTheFirst,
     Twist::OwnerIsAlwaysTheNext,
     Twist::PeeringSparesEveryOwner,
@@ -59,6 +68,14 @@ pub const TWISTS: [Twist; 28] = [
     Twist::SixtyFiveAreNotTooMany,
     Twist::PeeringOnOneIsFine,
     Twist::PeeringOnBothIsNotFine,
+    Twist::PeeringLinkIsNotCounted,
+    Twist::OuterInterfacesAreCounted,
+    Twist::PeeringOnOneIsALink,
+    Twist::PeeringOnThreeIsALink,
+    Twist::HopFieldIsRoundedDown,
+    Twist::PeeringLinkIsTurned,
+    Twist::PeeringLinkHasOneDirection,
+    Twist::LargestIndexWrapsAround,
     Twist::ExpiryOfTheFirstHopFieldOnly,
     Twist::ExpiryOfTheFirstSegmentOnly,
     Twist::ExpiryOfTheLastSegmentOnly,
@@ -155,6 +172,16 @@ fn has_peering(bytes: &[u8], shape: &Shape, k: usize) -> bool {
     bytes[shape.info_at(k)] & 2 == 2
 }
 
+/// How many segments have peering set.
+fn peering_count(bytes: &[u8], shape: &Shape) -> usize {
+    (0..shape.info_fields).filter(|k| has_peering(bytes, shape, *k)).count()
+}
+
+/// Whether a path is a peering path: it has two segments, and peering is set in both.
+fn is_peering_path(bytes: &[u8], shape: &Shape) -> bool {
+    shape.info_fields == 2 && peering_count(bytes, shape) == 2
+}
+
 /// The accumulator of segment `k`.
 pub fn accumulator(bytes: &[u8], shape: &Shape, k: usize) -> u16 {
     let at = shape.info_at(k) + 2;
@@ -173,8 +200,8 @@ fn refused_to_moves(bytes: &[u8], shape: &Shape) -> Option<Answer> {
     if shape.hop_fields > most {
         return Some(refusal(13));
     }
-    let with = (0..shape.info_fields).filter(|k| has_peering(bytes, shape, *k)).count();
-    let is_both = with == 2 && shape.info_fields == 2 && !has(Twist::PeeringOnBothIsNotFine);
+    let with = peering_count(bytes, shape);
+    let is_both = is_peering_path(bytes, shape) && !has(Twist::PeeringOnBothIsNotFine);
     let is_fine = with == 0 || is_both || (with == 1 && has(Twist::PeeringOnOneIsFine));
     (!is_fine).then_some(refusal(14))
 }
@@ -292,10 +319,69 @@ pub fn accumulators(bytes: &[u8], shape: &Shape) -> Vec<u16> {
 
 /// The entry and the exit interface of hop field `h`, by the direction of the segment it stands in.
 pub fn entry_and_exit(bytes: &[u8], shape: &Shape, h: usize) -> (u16, u16) {
+    entry_and_exit_by(bytes, shape, h, shape.segment_of(h))
+}
+
+/// The entry and the exit interface of hop field `h`, by the direction of segment `k`.
+fn entry_and_exit_by(bytes: &[u8], shape: &Shape, h: usize, k: usize) -> (u16, u16) {
     let at = shape.hop_at(h);
     let ingress = u16::from_be_bytes([bytes[at + 2], bytes[at + 3]]);
     let egress = u16::from_be_bytes([bytes[at + 4], bytes[at + 5]]);
-    if is_along(bytes, shape, shape.segment_of(h)) { (ingress, egress) } else { (egress, ingress) }
+    if is_along(bytes, shape, k) { (ingress, egress) } else { (egress, ingress) }
+}
+
+/// The shape of a path whose interfaces are request 2026-03's: a peering path, and no other.
+fn peering_shape(oracle: &Oracle, bytes: &[u8]) -> Option<Shape> {
+    oracle.standard().ok()?;
+    let shape = Shape::of(&oracle.record());
+    let is_peering = match TWIST.get() {
+        Twist::PeeringOnOneIsALink => shape.info_fields == 2 && peering_count(bytes, &shape) > 0,
+        Twist::PeeringOnThreeIsALink => shape.info_fields > 1 && peering_count(bytes, &shape) == shape.info_fields,
+        _ => is_peering_path(bytes, &shape),
+    };
+    is_peering.then_some(shape)
+}
+
+/// How many ends the links of a peering path have, one link from each hop field to the next: 2·(N − 1).
+fn link_ends(shape: &Shape) -> usize {
+    match TWIST.get() {
+        Twist::PeeringLinkIsNotCounted => 2 * (shape.hop_fields - shape.info_fields),
+        Twist::OuterInterfacesAreCounted => 2 * shape.hop_fields,
+        _ => 2 * (shape.hop_fields - 1),
+    }
+}
+
+/// The hop field of interface `index`, which is index / 2 rounded up, and its exit for an even index, else its entry.
+fn link_end(bytes: &[u8], shape: &Shape, index: usize) -> (usize, u16) {
+    let is_turned = has(Twist::PeeringLinkIsTurned) && index / 2 + 1 == shape.lengths[0];
+    let index = if is_turned { index ^ 1 } else { index };
+    let hop_field = match TWIST.get() {
+        Twist::HopFieldIsRoundedDown => index / 2,
+        Twist::OuterInterfacesAreCounted => index.div_ceil(2).min(shape.hop_fields - 1),
+        Twist::LargestIndexWrapsAround => index.wrapping_add(1) / 2,
+        _ => index.div_ceil(2),
+    };
+    let directed = if has(Twist::PeeringLinkHasOneDirection) { index / 2 } else { hop_field };
+    let (entry, exit) = entry_and_exit_by(bytes, shape, hop_field, shape.segment_of(directed));
+    (hop_field, if index % 2 == 0 { exit } else { entry })
+}
+
+/// How many interfaces a peering path has; nothing for other paths, whose interfaces are the Rust's.
+pub fn peering_interfaces_count(oracle: &Oracle, bytes: &[u8]) -> Option<InterfaceCount> {
+    let shape = peering_shape(oracle, bytes)?;
+    Some(InterfaceCount { answer: ACCEPTED, path: oracle.record(), count: link_ends(&shape) })
+}
+
+/// Interface `index` of a peering path, 8 from the count on; nothing for other paths, whose interfaces are the Rust's.
+pub fn peering_interface(oracle: &Oracle, bytes: &[u8], index: usize) -> Option<Interface> {
+    let shape = peering_shape(oracle, bytes)?;
+    let count = link_ends(&shape);
+    let is_there = if has(Twist::LargestIndexWrapsAround) { index.wrapping_add(1) <= count } else { index < count };
+    if !is_there {
+        return Some(Interface::refused(refusal(8)));
+    }
+    let (hop_field, id) = link_end(bytes, &shape, index);
+    Some(Interface { answer: ACCEPTED, path: oracle.record(), hop_field, id })
 }
 
 /// When hop field `h` of segment `k` expires: time × 1,000 + 337,500 × (1 + e), in ms.

@@ -210,7 +210,7 @@ fn every_size(checker: &mut Checker, random: &mut Random, path: &[u8]) {
     }
 }
 
-/// Moves and walks under each combination of direction and peering bits.
+/// Interfaces, moves and walks under each combination of direction and peering bits.
 fn every_peering(checker: &mut Checker, random: &mut Random, lengths: Lengths) {
     let mut bytes = shapes::path_of(random, lengths, Pointers::Start);
     let shape = shapes::shape(lengths);
@@ -219,6 +219,9 @@ fn every_peering(checker: &mut Checker, random: &mut Random, lengths: Lengths) {
             let at = shape.info_at(k);
             bytes[at] = bytes[at] & !3 | (bits >> (2 * k) & 3) as u8;
         }
+        let input = Input { path_type: 1, bytes: &bytes };
+        let oracle = checker.read_path(input);
+        every_interface(checker, random, input, &oracle, true);
         every_move(checker, &bytes, &shape);
     }
 }
@@ -311,7 +314,7 @@ fn every_time(checker: &mut Checker, random: &mut Random, input: Input, oracle: 
 /// The count of interfaces, and interfaces below and beyond it.
 fn every_interface(checker: &mut Checker, random: &mut Random, input: Input, oracle: &Oracle, thorough: bool) {
     checker.interfaces_count(input, oracle);
-    for index in some_indexes(random, oracle.interfaces_count().count, thorough) {
+    for index in some_indexes(random, oracle.interfaces_count().0.count, thorough) {
         checker.interface(input, oracle, index);
     }
 }

@@ -1,15 +1,15 @@
-//! Answers worked out by hand for packets, header writing, the times of records (request 2026-01), and copies and
-//! turns into destinations of any size (request 2026-08), held against the Rust, or the model where the Rust lacks the
-//! call, and the library. Others for paths are the stored answers of the program that executes calls, which `replay`
-//! holds against the Rust.
+//! Answers worked out by hand for packets, header writing, the times of records (request 2026-01), interfaces where
+//! peering is set (request 2026-03), and copies and turns into destinations of any size (request 2026-08), held against
+//! the Rust, or the model where the Rust lacks the call or is excepted, and the library. Others for paths are the
+//! stored answers of the program that executes calls, which `replay` holds against the Rust.
 
-use scion_proto::{Answer, Ends, Headers, Host, Packet, Part, Path, WrittenPath};
+use scion_proto::{Answer, Ends, Headers, Host, Interface, Packet, Part, Path, WrittenPath};
 
 use crate::check::{Checker, Input};
 use crate::lines::parse_bytes;
 use crate::model;
 use crate::oracle::path::Oracle;
-use crate::oracle::{packet, write};
+use crate::oracle::{Refused, packet, refusal, write};
 use crate::random::Random;
 use crate::shapes;
 
@@ -315,6 +315,53 @@ fn times(checker: &mut Checker, rows: &mut Rows) {
     }
 }
 
+/// A path with these flags in its info fields.
+fn with_flags(path: &str, flags: &[u8]) -> Vec<u8> {
+    let mut bytes = parse_bytes(path);
+    for (k, flags) in flags.iter().enumerate() {
+        bytes[4 + 8 * k] = *flags;
+    }
+    bytes
+}
+
+/// Rows on interfaces: a path, the flags of its info fields, how many interfaces there are, the first ones' hop fields.
+fn interfaces(checker: &mut Checker, rows: &mut Rows) {
+    let table: [(&str, &str, &[u8], usize, &[usize]); 14] = [
+        ("03-1", "00001040+40", &[2, 2], 2, &[0, 1]),
+        ("03-1", "00001080+52", &[2, 2], 4, &[0, 1, 1, 2]),
+        ("03-1", "00002040+52", &[2, 2], 4, &[0, 1, 1, 2]),
+        ("03-1", "000030c0+88", &[2, 2], 10, &[0, 1, 1, 2, 2, 3, 3, 4, 4, 5]),
+        ("03-1", "0003ffc0+1528", &[2, 2], 250, &[0, 1, 1, 2]),
+        ("03-2", F22, &[2, 3], 6, &[0, 1, 1, 2, 2, 3]),
+        ("03-3", F22, &[2, 0], 4, &[0, 1, 2, 3]),
+        ("03-3", F22, &[1, 3], 4, &[0, 1, 2, 3]),
+        ("03-3", "00002000+32", &[2], 2, &[0, 1]),
+        ("03-3", "00001000+20", &[3], 0, &[]),
+        ("03-3", "00002082+96", &[2, 2, 2], 6, &[0, 1, 2, 3, 4, 5]),
+        ("03-3", "00001041+60", &[3, 3, 3], 0, &[]),
+        ("03-4", F22, &[0, 1], 4, &[0, 1, 2, 3]),
+        ("03-4", F22, &[1, 0], 4, &[0, 1, 2, 3]),
+    ];
+    for (row, path, flags, count, hop_fields) in table {
+        let bytes = with_flags(path, flags);
+        let input = Input { path_type: 1, bytes: &bytes };
+        let oracle = checker.read_path(input);
+        checker.interfaces_count(input, &oracle);
+        rows.hold(row, oracle.interfaces_count().0.count, count);
+        for index in (0..count + 2).chain([usize::MAX]) {
+            checker.interface(input, &oracle, index);
+        }
+        let found = |index| oracle.interface(index).0;
+        rows.hold(row, (0..hop_fields.len()).map(|index| found(index).hop_field).collect(), hop_fields.to_vec());
+        for index in [count, count + 1, usize::MAX] {
+            rows.hold("03-5", found(index), Interface::refused(refusal(8)));
+        }
+    }
+    let bytes = with_flags(F22, &[2, 3]);
+    let oracle = Oracle::new(1, &bytes);
+    rows.hold("03-2", [0, 1, 2, 3, 4, 5].map(|index| oracle.interface(index).0.id), [1, 4, 3, 5, 6, 7]);
+}
+
 /// Rows on copies and turns into a destination of bytes EE: type, path, size, number, the front of a copy and of a turn.
 fn fronts(checker: &mut Checker, rows: &mut Rows) {
     for (row, path_type, path, size, number, copied, turned) in [
@@ -367,6 +414,7 @@ pub fn run(checker: &mut Checker) -> bool {
     refusals(checker, &mut rows);
     expiries(checker, &mut rows);
     times(checker, &mut rows);
+    interfaces(checker, &mut rows);
     fronts(checker, &mut rows);
     println!("  worked answers: {} held, {} that the Rust or the model does not give", rows.held, rows.missed);
     rows.missed == 0

@@ -1,6 +1,6 @@
 //! The harness made to fail: every byte of every answer, lent bytes and their guards, and the ends of paths that are
-//! written are made wrong in turn, and plausible wrong rules of moving, of times and of arrivals are put in the right
-//! one's place. Each has to be reported.
+//! written are made wrong in turn, and plausible wrong rules of moving, of interfaces, of times and of arrivals are put
+//! in the right one's place. Each has to be reported.
 
 use std::mem::offset_of;
 
@@ -141,16 +141,27 @@ fn event_faults() -> Vec<Plant> {
     all
 }
 
-/// Every move and walk of small shapes and of those beside 64 hop fields.
-fn move_run(checker: &mut Checker) {
+/// Every call on paths of small shapes and of those beside 64 hop fields.
+fn shape_run(checker: &mut Checker) {
     paths::every_shape(checker, &mut Random::new(7), 3);
 }
 
 /// The runs that have to tell a wrong rule from the right one. Event lists begin with paths that moves admit, so that
-/// rules of refusal are not theirs to find; all of such a path lies ahead; and they ask no record for its time left.
+/// rules of refusal are not theirs to find; all of such a path lies ahead; and they ask no path for its interfaces and
+/// no record for its time left.
 fn runs_of(twist: Twist) -> &'static [fn(&mut Checker)] {
     match twist {
-        Twist::SixtyFiveAreNotTooMany | Twist::PeeringOnOneIsFine | Twist::ExpiryOfTheHopFieldsAhead => &[move_run],
+        Twist::SixtyFiveAreNotTooMany
+        | Twist::PeeringOnOneIsFine
+        | Twist::PeeringLinkIsNotCounted
+        | Twist::OuterInterfacesAreCounted
+        | Twist::PeeringOnOneIsALink
+        | Twist::PeeringOnThreeIsALink
+        | Twist::HopFieldIsRoundedDown
+        | Twist::PeeringLinkIsTurned
+        | Twist::PeeringLinkHasOneDirection
+        | Twist::LargestIndexWrapsAround
+        | Twist::ExpiryOfTheHopFieldsAhead => &[shape_run],
         Twist::LargestExpiryIsTooWide
         | Twist::OneMoreThanTheLargestExpiryIsNot
         | Twist::AnyExpiryIsTaken
@@ -159,7 +170,7 @@ fn runs_of(twist: Twist) -> &'static [fn(&mut Checker)] {
         | Twist::NoExpiryIsRefused
         | Twist::NothingIsLeftOnceItHasExpired => &[records::borders],
         Twist::EndHoldsTheWholeDestination => &[event_run],
-        _ => &[move_run, event_run],
+        _ => &[shape_run, event_run],
     }
 }
 
@@ -223,8 +234,9 @@ fn stored_faults() -> (usize, usize) {
 /// Plants every fault; whether all were reported, and none where none was planted.
 pub fn run() -> bool {
     let mut clean = Checker::default();
-    short_run(&mut clean);
-    event_run(&mut clean);
+    for run in [short_run, shape_run, event_run, records::borders] {
+        run(&mut clean);
+    }
     println!("without a fault: {}", clean.tally.summary());
     let mut missed = 0;
     let mut count = 0;
@@ -239,7 +251,7 @@ pub fn run() -> bool {
         missed += report(plant, is_reported(plant, event_run), "event lists");
     }
     let twists = missed_twists();
-    println!("{} wrong rules of moving, of times and of arrivals, {twists} missed", TWISTS.len());
+    println!("{} wrong rules of moving, of interfaces, of times and of arrivals, {twists} missed", TWISTS.len());
     let (stored, stored_missed) = stored_faults();
     println!("planted {stored} faults in stored answers, {stored_missed} missed");
     let (plain, plain_missed) = plain_faults();

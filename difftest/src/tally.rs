@@ -76,12 +76,13 @@ impl Source {
     }
 }
 
-/// Where the Rust's answer has no meaning or is not document 01's, which decides. There are no others.
+/// Where the Rust's answer has no meaning or is not document 01's or a request's, which decide. There are no others.
 #[derive(Debug, Clone, Copy, PartialEq, Eq)]
 #[repr(usize)]
 pub enum Exception {
     PanickingSize,
     InterfaceBeyondCount,
+    PeeringInterfaces,
     OffsetBeyondCount,
     UnreadStandardPathWritten,
     LongerEncoderDestination,
@@ -89,7 +90,7 @@ pub enum Exception {
 }
 
 /// Each exception with its reason.
-pub const EXCEPTIONS: [(Exception, &str); 6] = [
+pub const EXCEPTIONS: [(Exception, &str); 7] = [
     (
         Exception::PanickingSize,
         "the Rust was seen to panic at this size; 01: 9, or 1 for a number cut short; 2026-08: a longer copy's front",
@@ -97,6 +98,10 @@ pub const EXCEPTIONS: [(Exception, &str); 6] = [
     (
         Exception::InterfaceBeyondCount,
         "interface index at or above the count, where the Rust's answer has no meaning; 01: 8",
+    ),
+    (
+        Exception::PeeringInterfaces,
+        "interface calls on a peering path, where the Rust has 2·(N − I); 2026-03: 2·(N − 1)",
     ),
     (
         Exception::OffsetBeyondCount,

@@ -2,13 +2,13 @@
 -- Assumes nothing.
 use Prim.Native.Nat.{ℕ, _+_, _*_, _-_, _≤_, _<_}
 use mathlib.Core.Path.{_≡_, refl, sym, ap, ap₂, _∙_}
-use mathlib.Core.Bool.{Bool, true, false}
+use mathlib.Core.Bool.{Bool, true, false, _&&_}
 use mathlib.Core.List.{List, _++_, flatMap, reverse as reversed}
 use native.Mathlib.Omega.{arith}
-use lib.Dec.{ltb}
+use lib.Dec.{ltb, eqb}
 use lib.ListN.{length, take, drop, getD, set, length-drop, List·getD-append}
 use lib.Seq.{take-append-le, drop-append-le}
-use borrow.Author.Tests.{ltb-true}
+use borrow.Author.Tests.{ltb-true, eqb-true}
 use Rattle.wire_encoding.specs.Result.{Result, ok, refused, require, andThen, mapped}
 use Rattle.wire_encoding.specs.BigEndian.{part, records}
 use Rattle.wire_encoding.specs.Bits.{withBit}
@@ -17,21 +17,21 @@ use Rattle.wire_encoding.proofs.BigEndian.{records-left}
 use Rattle.errors.specs.declared.packet_error.DecodeError.{DecodeError}
 use Rattle.errors.specs.declared.path_error.PathError.{PathError}
 use Rattle.errors.specs.declared.path_error.PathError.the-variants.{NoSuchField}
-use Rattle.path_fields.specs.Fields.{expiryTime}
+use Rattle.path_fields.specs.Fields.{expiryTime, peering}
 use Rattle.path_fields.proofs.Fields.{info-left, hop-left}
 use Rattle.path_meta_header.specs.MetaHeader.{infoFieldsCount, hopFieldsCount, segmentOf, segmentLength, firstHopField, infoStart, hopStart}
-use Rattle.path_meta_header.specs.MetaHeader.{pathLength, hopFieldOffset, hopFieldOf}
+use Rattle.path_meta_header.specs.MetaHeader.{pathLength, hopFieldOffset}
 use Rattle.path_meta_header.specs.declared.PathMetaHeader.{PathMetaHeader}
 use Rattle.path_meta_header.proofs.Segment.{inside}
 use Rattle.path_least_expiry.specs.Expiry.{hopExpiry, segmentExpiry}
 use Rattle.path_least_expiry.proofs.Least.{least-same}
-use Rattle.path.specs.Standard.{infoAt}
+use Rattle.path.specs.Standard.{infoAt, peeringPath}
 use Rattle.path.specs.Dataplane.{Extent, readDataplane, dataplaneRead, pathOf, pathLeft, standard, infoFieldIn, hopFieldIn, segmentIn, alerted}
 use Rattle.path.proofs.Reading.{Readable, record-read, standard-read}
 use Rattle.path.proofs.Kept.{readable-after, expires-after, record-after, path-alerted}
 use Rattle.path_hop_fields.specs.PathRuns.{hopFieldsIn}
 use Rattle.path_expiry.specs.Expiry.{segmentExpiryIn, expiryIn, timeLeftIn}
-use Rattle.path_interfaces.specs.Interfaces.{Place, interfaceAt, interfacesIn, interfaceIn}
+use Rattle.path_interfaces.specs.Interfaces.{Place, countOn, hopFieldOn, interfaceAt, interfacesIn, interfaceIn}
 use Rattle.path_interfaces.proofs.Interfaces.{interface-there}
 use Rattle.path_reverse.specs.Copy.{copy}
 use Rattle.path_reverse.specs.Reverse.{reversedRecords, flipped, same, reversedUnder, reversedPath, reversedBytes, reverse}
@@ -64,6 +64,17 @@ module _ (p t : List ℕ) (m : PathMetaHeader) (r : Readable p m) where
   pub info-after : (k : ℕ) → k < infoFieldsCount m → infoAt (p ++ t) k ≡ infoAt p k
   info-after k l = info-left p t (infoStart k) (omega (arith, whole))
 
+  pub peering-path-after : peeringPath (p ++ t) m ≡ peeringPath p m
+  unfolding peeringPath
+  peering-path-after = go (eqb (infoFieldsCount m) 2) refl
+    where
+      go : (two : Bool) → eqb (infoFieldsCount m) 2 ≡ two
+          → two && (peering (infoAt (p ++ t) 0) && peering (infoAt (p ++ t) 1)) ≡ two && (peering (infoAt p 0) && peering (infoAt p 1))
+      go true e =
+          let two = eqb-true (infoFieldsCount m) 2 e in
+          rw (info-after 0 (omega arith), info-after 1 (omega arith))
+      go false e = refl
+
   -- EXPIRY
 
   segment-expiry-same : (k : ℕ) → k < infoFieldsCount m → segmentExpiry (p ++ t) m k ≡ segmentExpiry p m k
@@ -89,14 +100,26 @@ module _ (p t : List ℕ) (m : PathMetaHeader) (r : Readable p m) where
 
   -- INTERFACES
 
+  count-after : countOn (p ++ t) m ≡ countOn p m
+  unfolding countOn
+  count-after = rw peering-path-after
+
+  interfaces-after : interfacesIn 1 (p ++ t) ≡ interfacesIn 1 p
+  unfolding interfacesIn
+  interfaces-after = rw (standard-read (p ++ t) m after, standard-read p m r, count-after)
+
+  hop-field-after : (i : ℕ) → hopFieldOn (p ++ t) m i ≡ hopFieldOn p m i
+  unfolding hopFieldOn
+  hop-field-after i = rw (count-after, peering-path-after)
+
   interface-after : (i : ℕ) → interfaceIn 1 (p ++ t) i ≡ interfaceIn 1 p i
   unfolding interfaceIn interfaceAt
-  interface-after i = rw (standard-read (p ++ t) m after, standard-read p m r) (go (hopFieldOf m i) refl)
+  interface-after i = rw (standard-read (p ++ t) m after, standard-read p m r, hop-field-after i) (go (hopFieldOn p m i) refl)
     where
       found : List ℕ → ℕ → Result PathError Place
       found bytes j = ok (record { hop = j; interface = interfaceAt bytes m j i })
 
-      go : (of : Result PathError ℕ) → hopFieldOf m i ≡ of → andThen of (found (p ++ t)) ≡ andThen of (found p)
+      go : (of : Result PathError ℕ) → hopFieldOn p m i ≡ of → andThen of (found (p ++ t)) ≡ andThen of (found p)
       go (ok j) e =
           let there = interface-there p m r i e in
           rw (info-after (segmentOf m j) (there .segment-inside), hop-left p t (hopStart m j) (there .hop-inside))
@@ -167,7 +190,7 @@ module _ (p t : List ℕ) (m : PathMetaHeader) (r : Readable p m) where
   -- ALL OF THEM
 
   pub read-alike : ReadAlike p t
-  unfolding infoFieldIn hopFieldIn segmentIn hopFieldsIn timeLeftIn interfacesIn
+  unfolding infoFieldIn hopFieldIn segmentIn hopFieldsIn timeLeftIn
   read-alike =
       record {
         reading = reading-after;
@@ -179,7 +202,7 @@ module _ (p t : List ℕ) (m : PathMetaHeader) (r : Readable p m) where
         segment-expiry = segment-expiry-after;
         expiry = expiry-after;
         time-left = λ now. rw expiry-after;
-        interfaces = rw standard-after;
+        interfaces = interfaces-after;
         interface = interface-after;
       }
 

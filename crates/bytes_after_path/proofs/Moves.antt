@@ -2,14 +2,14 @@
 -- Assumes nothing.
 use Prim.Native.Nat.{ℕ, zero, suc, _+_, _*_, _≤_, _<_}
 use mathlib.Core.Path.{_≡_, refl, ap, ap₂, _∙_}
-use mathlib.Core.Bool.{Bool, true, false, not, cond, _&&_, _||_}
+use mathlib.Core.Bool.{Bool, true, false, not, cond, _||_}
 use mathlib.Core.List.{List, _++_}
 use native.Mathlib.Omega.{arith}
 use lib.Bits.{bitXor}
 use lib.Dec.{eqb}
 use lib.ListN.{set, length-set}
 use lib.Seq.{sets}
-use borrow.Author.Tests.{eqb-true, eqb-false}
+use borrow.Author.Tests.{eqb-false}
 use Rattle.wire_encoding.specs.Result.{Result, ok, refused, mapped, andThen, orElse, require}
 use Rattle.wire_encoding.specs.BigEndian.{bigEndian, bytesOf}
 use Rattle.wire_encoding.proofs.Lists.{Bytes, set-left, sets-left}
@@ -23,14 +23,14 @@ use Rattle.path.specs.Standard.{infoAt}
 use Rattle.path.specs.Dataplane.{pathOf, pathLeft}
 use Rattle.path.proofs.Reading.{Readable, standard-read}
 use Rattle.path.proofs.Kept.{readable-after}
-use Rattle.path_moves.specs.Rules.{ownerOf, somePeering, peeringPath, peeringAllowed, movable}
+use Rattle.path_moves.specs.Rules.{ownerOf, somePeering, peeringAllowed, movable}
 use Rattle.path_moves.specs.Moves.{CanMove, Way, codeOf, takesIn, moveBytes, isLast, move, moved, movedMeta, iterate, walkMoves, walk, walked}
 use Rattle.path_moves.specs.Moves.{walkAnswer}
 use Rattle.path_moves.proofs.Rules.{known, owner-below}
 use Rattle.path_moves.proofs.Moves.{Standing, can-move, standing, moved-known}
 use Rattle.path_moves.proofs.Sums.{after}
 use Rattle.bytes_after_path.specs.BytesAfterPath.{before, wayBefore, ChangedAlike}
-use Rattle.bytes_after_path.proofs.Calls.{path-after, info-after, alert-after, alert-record-after}
+use Rattle.bytes_after_path.proofs.Calls.{path-after, info-after, peering-path-after, alert-after, alert-record-after}
 
 -- WHICH PATHS CAN BE MOVED
 
@@ -41,17 +41,6 @@ module _ (p t : List ℕ) (m : PathMetaHeader) (r : Readable p m) where
   some-peering-after (suc n) l =
       ap₂ (λ (a b : Bool). a || b) (some-peering-after n (omega arith)) (ap (λ info. peering info) (info-after p t m r n (omega arith)))
 
-  peering-path-after : peeringPath (p ++ t) m ≡ peeringPath p m
-  unfolding peeringPath
-  peering-path-after = go (eqb (infoFieldsCount m) 2) refl
-    where
-      go : (two : Bool) → eqb (infoFieldsCount m) 2 ≡ two
-          → two && (peering (infoAt (p ++ t) 0) && peering (infoAt (p ++ t) 1)) ≡ two && (peering (infoAt p 0) && peering (infoAt p 1))
-      go true e =
-          let two = eqb-true (infoFieldsCount m) 2 e in
-          rw (info-after p t m r 0 (omega arith), info-after p t m r 1 (omega arith))
-      go false e = refl
-
   movable-after : movable 1 (p ++ t) ≡ movable 1 p
   unfolding movable peeringAllowed
   movable-after =
@@ -59,7 +48,7 @@ module _ (p t : List ℕ) (m : PathMetaHeader) (r : Readable p m) where
         standard-read (p ++ t) m (readable-after p t m r),
         standard-read p m r,
         some-peering-after (infoFieldsCount m) (omega arith),
-        peering-path-after,
+        peering-path-after p t m r,
       )
 
 -- ONE MOVE

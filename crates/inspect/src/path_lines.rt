@@ -122,21 +122,26 @@ fn segments(bytes: &[u8], meta_header: PathMetaHeader) {
     }
 }
 
+// An interface, and the hop field that it belongs to.
+fn interface_line(bytes: &[u8], index: usize) {
+    let found = path_interfaces::interface(standard(), bytes, index);
+    let id = found.interface;
+    text::name(b"    interface");
+    text::number(index as u64);
+    text::text(b" hop field ");
+    text::number(found.hop_field as u64);
+    text::text(b" number ");
+    interface(id);
+    text::end();
+}
+
 // Every interface, in order of travel.
-fn interfaces(bytes: &[u8], meta_header: PathMetaHeader) {
-    let count = meta_header.interfaces_count();
+fn interfaces(bytes: &[u8]) {
+    let count = path_interfaces::interfaces_count(standard(), bytes).count;
     text::number_line(b"  interfaces", count as u64);
     let mut i: usize = 0;
     while i < count {
-        let found = path_interfaces::interface(standard(), bytes, i);
-        let id = found.interface;
-        text::name(b"    interface");
-        text::number(i as u64);
-        text::text(b" hop field ");
-        text::number(found.hop_field as u64);
-        text::text(b" number ");
-        interface(id);
-        text::end();
+        interface_line(bytes, i);
         i += 1;
     }
 }
@@ -233,6 +238,6 @@ pub fn path(bytes: &[u8], path: StandardPath) {
     text::number_line(b"  hop fields", meta_header.hop_fields_count() as u64);
     path_expiry_line(path.expiry_time());
     segments(bytes, meta_header);
-    interfaces(bytes, meta_header);
+    interfaces(bytes);
     onward_in_room(bytes);
 }

@@ -1,12 +1,13 @@
 -- The draft's SCION Path Type: a Path Meta Header, its Info Fields, its Hop Fields; and what reading one finds.
+use mathlib.Core.Bool.{Bool, _&&_}
 use mathlib.Core.List.{List}
 use Prim.Native.Nat.{ℕ}
 use lib.ListN.{length}
-use lib.Dec.{leb}
+use lib.Dec.{leb, eqb}
 use Rattle.wire_encoding.specs.Result.{Result, ok, require, _>>_, _>>=_, mapped, orElse}
-use Rattle.path_meta_header.specs.MetaHeader.{metaOf, infoStart, hopStart, pathLength, readMeta}
+use Rattle.path_meta_header.specs.MetaHeader.{metaOf, infoFieldsCount, infoStart, hopStart, pathLength, readMeta}
 use Rattle.path_meta_header.specs.declared.PathMetaHeader.{PathMetaHeader}
-use Rattle.path_fields.specs.Fields.{infoFieldAt, hopFieldAt}
+use Rattle.path_fields.specs.Fields.{infoFieldAt, hopFieldAt, peering}
 use Rattle.path_fields.specs.declared.InfoField.{InfoField}
 use Rattle.path_fields.specs.declared.HopField.{HopField}
 use Rattle.errors.specs.Errors.{decodedOf}
@@ -30,6 +31,10 @@ infoAt bytes k = infoFieldAt bytes (infoStart k)
 
 abbrev pub hopAt : List ℕ → PathMetaHeader → ℕ → HopField
 hopAt bytes m j = hopFieldAt bytes (hopStart m j)
+
+-- a peering path: I is 2, and both info fields have peering
+unfoldable pub peeringPath : List ℕ → PathMetaHeader → Bool
+peeringPath bytes m = eqb (infoFieldsCount m) 2 && (peering (infoAt bytes 0) && peering (infoAt bytes 1))
 
 -- THE RECORD of a path: its header, and when the path expires. It is made here alone
 abbrev pub pathUnder : List ℕ → PathMetaHeader → StandardPath

@@ -10,6 +10,7 @@ ghost use Rattle.errors.specs.declared.packet_error.Decoded.the-variants as dec
 ghost use Rattle.path_least_expiry.specs.Expiry.{largestExpiry};
 ghost use Rattle.path.specs.Standard as spec;
 
+pub mod peering;
 pub mod segment;
 pub mod time_left;
 

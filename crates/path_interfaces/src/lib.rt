@@ -3,6 +3,7 @@ use errors::path_error::Answer;
 use errors::path_error::PathError;
 use path::dataplane::DataplanePath;
 use path::standard::StandardPath;
+use path::standard::peering::is_peering_path;
 use path_fields::HopField;
 use path_fields::InfoField;
 use path_fields::Interface;
@@ -32,14 +33,13 @@ pub struct InterfaceAt {
 }
 
 impl InterfaceCount {
-    // The number of interfaces of a path that was read.
-    fn of(path: StandardPath) -> InterfaceCount
-        ensures { λ r. ⌜ r ≡ record { answer = answers.Accepted; path = path; count = meta.interfacesCount (path .«meta_header») } ⌝ }
+    fn accepted(path: StandardPath, count: usize) -> InterfaceCount
+        ensures { λ r. ⌜ r ≡ record { answer = answers.Accepted; path = path; count = count } ⌝ }
     {
         InterfaceCount {
             answer: Answer::Accepted,
             path,
-            count: path.meta_header.interfaces_count(),
+            count,
         }
     }
 
@@ -80,6 +80,29 @@ impl InterfaceAt {
     }
 }
 
+// The number of interfaces of a path that was read.
+fn count_on(bytes: &[u8], meta_header: PathMetaHeader) -> usize
+    ensures { λ r. ⌜ r ≡ spec.countOn (now (bytes .entry)) «meta_header» ⌝ }
+{
+    if is_peering_path(meta_header, bytes) {
+        return (meta_header.hop_fields_count() - 1) * 2;
+    }
+    meta_header.interfaces_count()
+}
+
+// The hop field that interface `index` of a path that was read belongs to.
+fn hop_field_on(bytes: &[u8], meta_header: PathMetaHeader, index: usize) -> HopFieldOf
+    ensures { λ r. ⌜ meta.hopFieldFound r ≡ spec.hopFieldOn (now (bytes .entry)) «meta_header» index ⌝ }
+{
+    if count_on(bytes, meta_header) <= index {
+        return HopFieldOf::NoSuchInterface;
+    }
+    if is_peering_path(meta_header, bytes) {
+        return HopFieldOf::Index((index + 1) / 2);
+    }
+    meta_header.hop_field_index_for_interface(index)
+}
+
 // Interface `index` at hop field `hop`: its egress where the index is even, else its ingress.
 fn interface_at(bytes: &[u8], meta_header: PathMetaHeader, hop: usize, index: usize) -> Interface
     requires { ⌜ spec.hopIsThere (now bytes) «meta_header» hop ⌝ }
@@ -107,7 +130,7 @@ pub fn interfaces_count(path: DataplanePath, bytes: &[u8]) -> InterfaceCount
     if let Answer::Refused(error) = answer {
         return InterfaceCount::refused(error);
     }
-    InterfaceCount::of(read.path)
+    InterfaceCount::accepted(read.path, count_on(bytes, read.path.meta_header))
 }
 
 // Interface `index` in the order of travel, and its hop field: its egress where the index is even, else its ingress.
@@ -122,7 +145,7 @@ pub fn interface(path: DataplanePath, bytes: &[u8], index: usize) -> InterfaceAt
         return InterfaceAt::refused(error);
     }
     let meta_header = read.path.meta_header;
-    match meta_header.hop_field_index_for_interface(index) {
+    match hop_field_on(bytes, meta_header, index) {
         HopFieldOf::Index(hop) => InterfaceAt::accepted(
             read.path,
             hop,

@@ -246,6 +246,65 @@ links m valid l below =
     go n (three a b c) e h false false ep eq =
         in-2 (ltb-false (l + 1) s0 ep) (ltb-false (l + 2) (s0 + s1) eq) (omega arith) (omega arith)
 
+-- two neighbouring hop fields j and j + 1 of one segment k are joined by link j − k
+pub record Between (m : PathMetaHeader) (j k : ℕ) : Type 0 where
+  pub link : segmentOfLink m (j - k) ≡ k
+  pub there : j - k < hopFieldsCount m - infoFieldsCount m
+  pub before : k ≤ j
+
+pub between : (m : PathMetaHeader) → lengthsValid m ≡ true → (j k : ℕ) → j + 1 < hopFieldsCount m → segmentOf m j ≡ k
+    → segmentOf m (j + 1) ≡ k → Between m j k
+unfolding segmentOfLink hopFieldsCount
+between m valid j k below near far = go (infoFieldsCount m) (segments m valid) refl
+  where
+    s0 : ℕ
+    s0 = segmentLength m 0
+
+    s1 : ℕ
+    s1 = segmentLength m 1
+
+    -- which segment it is, by where the second of the two lies; the first lies in it too
+    in-0 : j + 1 < s0 → k ≡ 0
+    in-0 h = sym far ∙ in-first m (j + 1) h
+
+    in-1 : s0 ≤ j + 1 → j + 1 < s0 + s1 → (k ≡ 1) × (s0 ≤ j)
+    in-1 a h =
+        let one = sym far ∙ in-second m (j + 1) a h in
+        (one, by-lt j s0 (λ l. absurd (omega (arith, in-first m j l))) (λ l. l))
+
+    in-2 : s0 + s1 ≤ j + 1 → (k ≡ 2) × (s0 + s1 ≤ j)
+    in-2 a =
+        let two = sym far ∙ in-third m (j + 1) a in
+        (two, by-lt j s0 (λ l. absurd (omega (arith, in-first m j l)))
+        (λ l. by-lt j (s0 + s1) (λ b. absurd (omega (arith, in-second m j l b))) (λ b. b)))
+
+    -- the link's segment, from where it is known that the link is there
+    found : 1 ≤ s0 → (s0 + s1 ≤ j → 1 ≤ s1) → j - k < hopFieldsCount m - infoFieldsCount m → Between m j k
+    found a b there =
+        by-lt (j + 1) s0
+        (λ h. let e : j - k ≡ j = omega (arith, in-0 h) in
+        record { link = rw (e, lt-ltb (j + 1) s0 h) (sym (in-0 h)); there = there; before = omega (arith, in-0 h) })
+        (λ h. by-lt (j + 1) (s0 + s1)
+        (λ l. let p = in-1 h l in
+        let x : s0 ≤ j - k + 1 = omega arith in
+        let y : j - k + 2 < s0 + s1 = omega arith in
+        record { link = rw (le-ltb _ _ x, lt-ltb _ _ y) (sym (p .0)); there = there; before = omega arith })
+        (λ l. let p = in-2 l in
+        let one = b (p .1) in
+        let x : s0 ≤ j - k + 1 = omega arith in
+        let y : s0 + s1 ≤ j - k + 2 = omega arith in
+        record { link = rw (le-ltb _ _ x, le-ltb _ _ y) (sym (p .0)); there = there; before = omega arith }))
+
+    go : (n : ℕ) → Segments s0 s1 (segmentLength m 2) n → infoFieldsCount m ≡ n → Between m j k
+    go n (one a b c) e = found a (λ h. absurd (omega arith)) (omega (arith, in-0 (omega arith)))
+    go n (two a b c) e =
+        found a (λ h. b)
+        (by-lt (j + 1) s0 (λ h. omega (arith, in-0 h)) (λ h. let p = in-1 h (omega arith) in omega arith))
+    go n (three a b c) e =
+        found a (λ h. b)
+        (by-lt (j + 1) s0 (λ h. omega (arith, in-0 h))
+        (λ h. by-lt (j + 1) (s0 + s1) (λ l. let p = in-1 h l in omega arith) (λ l. let p = in-2 l in omega arith)))
+
 -- A HEADER BY ITS FIELDS
 
 pub same-meta : (m n : PathMetaHeader) → m .«current_info_field» ≡ n .«current_info_field» → m .«current_hop_field» ≡ n .«current_hop_field»

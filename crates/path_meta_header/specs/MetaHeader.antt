@@ -90,6 +90,9 @@ abbrev pub offsetFound : Offset → Result PathError ℕ
 offsetFound (offset.At start) = ok start
 offsetFound offset.NoSuchField = refused error.NoSuchField
 
+-- INTERFACES by the header alone: the links inside segments. A peering path has one link more, between its segments, which the calls by
+-- bytes count (crate path_interfaces)
+
 -- 2 · (N − I) interfaces: a segment of s hop fields has s − 1 links, and each link two interfaces
 unfoldable pub interfacesCount : PathMetaHeader → ℕ
 interfacesCount m = (hopFieldsCount m - infoFieldsCount m) * 2
@@ -98,11 +101,15 @@ interfacesCount m = (hopFieldsCount m - infoFieldsCount m) * 2
 unfoldable pub segmentOfLink : PathMetaHeader → ℕ → ℕ
 segmentOfLink m l = cond (ltb (l + 1) (segmentLength m 0)) 0 (cond (ltb (l + 2) (segmentLength m 0 + segmentLength m 1)) 1 2)
 
--- interface i is the first of link i / 2 if i is even, else the second; 8 where there is none
+-- the hop field of interface i: the first of link i / 2 if i is even, else the second
+unfoldable pub linkEnd : PathMetaHeader → ℕ → ℕ
+linkEnd m i = i / 2 + i % 2 + segmentOfLink m (i / 2)
+
+-- 8 where there is none
 unfoldable pub hopFieldOf : PathMetaHeader → ℕ → Result PathError ℕ
 hopFieldOf m i = do
   require (ltb i (interfacesCount m)) error.NoSuchField
-  ok (i / 2 + i % 2 + segmentOfLink m (i / 2))
+  ok (linkEnd m i)
 
 abbrev pub hopFieldFound : HopFieldOf → Result PathError ℕ
 hopFieldFound (hop.Index index) = ok index

@@ -135,7 +135,7 @@ impl PathMetaHeader {
         wide(lengths[0]) + wide(lengths[1]) + wide(lengths[2])
     }
 
-    // The number of interfaces on the path.
+    // The number of interfaces by the header alone; a peering path has two more.
     pub fn interfaces_count(self) -> usize
         ensures { λ r. ⌜ (r ≡ spec.interfacesCount self) × (r ≤ 1530) ⌝ }
     {
@@ -159,7 +159,7 @@ impl PathMetaHeader {
         2
     }
 
-    // The hop field that interface `index` belongs to.
+    // The hop field that interface `index` belongs to by the header alone, which does not tell a peering path.
     pub fn hop_field_index_for_interface(self, index: usize) -> HopFieldOf
         ensures { λ r. ⌜ spec.hopFieldFound r ≡ spec.hopFieldOf self index ⌝ }
     {

@@ -3,7 +3,7 @@
 -- Assumes nothing.
 use Prim.Native.Nat.{ℕ, zero, suc, _+_, _-_, _≤_, _<_}
 use mathlib.Core.Path.{_≡_, refl, sym, ap, ap₂, _∙_}
-use mathlib.Core.Bool.{Bool, true, false, cond, not, _&&_, _||_, and-eq-true-iff}
+use mathlib.Core.Bool.{Bool, true, false, cond, not, _&&_, _||_}
 use mathlib.Core.List.{List}
 use native.Mathlib.Omega.{arith}
 use lib.Dec.{leb, eqb}
@@ -22,7 +22,8 @@ use Rattle.path.specs.Dataplane.{standard, pathOf, pathAnswer}
 use Rattle.path.specs.declared.standard.StandardPath.{StandardPath}
 use Rattle.path.specs.declared.dataplane.PathAnswer.{PathAnswer}
 use Rattle.path.proofs.Reading.{Readable, answer-value, answer-path, standard-path, standard-type, standard-readable, standard-read}
-use Rattle.path_moves.specs.Rules.{ownerOf, spared, somePeering, peeringPath, peeringAllowed, movable}
+use Rattle.path.proofs.Peering.{two-segments}
+use Rattle.path_moves.specs.Rules.{ownerOf, spared, somePeering, peeringAllowed, movable}
 
 pub record Known (bytes : List ℕ) (m : PathMetaHeader) : Type 0 where
   pub path : Readable bytes m
@@ -95,10 +96,8 @@ some-peering bytes (suc n) k l set =
 -- where peering is set there are two segments
 pub peering-two : (bytes : List ℕ) (m : PathMetaHeader) → peeringAllowed bytes m ≡ true → (k : ℕ) → k < infoFieldsCount m
     → peering (infoAt bytes k) ≡ true → infoFieldsCount m ≡ 2
-unfolding peeringAllowed peeringPath
-peering-two bytes m allowed k l set =
-    let path = rw (some-peering bytes (infoFieldsCount m) k l set) at allowed in
-    eqb-true (infoFieldsCount m) 2 (and-eq-true-iff _ _ .0 path .0)
+unfolding peeringAllowed
+peering-two bytes m allowed k l set = two-segments bytes m (rw (some-peering bytes (infoFieldsCount m) k l set) at allowed)
 
 -- BY THE FLAGS ALONE
 

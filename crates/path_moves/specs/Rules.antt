@@ -11,7 +11,7 @@ use Rattle.path_meta_header.specs.MetaHeader.{infoFieldsCount, hopFieldsCount}
 use Rattle.path_meta_header.specs.declared.PathMetaHeader.{PathMetaHeader}
 use Rattle.errors.specs.declared.path_error.PathError.{PathError}
 use Rattle.errors.specs.declared.path_error.PathError.the-variants.{TooManyHopFields, PeeringNotOnBoth}
-use Rattle.path.specs.Standard.{infoAt}
+use Rattle.path.specs.Standard.{infoAt, peeringPath}
 use Rattle.path.specs.Dataplane.{standard}
 
 -- the owner of the move from hop field h to h + 1 inside a segment: h in construction direction, else h + 1
@@ -26,10 +26,6 @@ spared info owner s0 = peering info && (eqb (owner + 1) s0 || eqb owner s0)
 unfoldable pub somePeering : List ℕ → ℕ → Bool
 somePeering bytes zero = false
 somePeering bytes (suc n) = somePeering bytes n || peering (infoAt bytes n)
-
--- a peering path: two segments, and both have peering
-unfoldable pub peeringPath : List ℕ → PathMetaHeader → Bool
-peeringPath bytes m = eqb (infoFieldsCount m) 2 && (peering (infoAt bytes 0) && peering (infoAt bytes 1))
 
 -- peering is set on no info field, or the path is a peering path
 unfoldable pub peeringAllowed : List ℕ → PathMetaHeader → Bool

@@ -4,6 +4,7 @@ use errors::path_error::PathError;
 use path::dataplane::DataplanePath;
 use path::dataplane::PathAnswer;
 use path::standard::StandardPath;
+use path::standard::peering::is_peering_path;
 use path_fields::HopField;
 use path_fields::InfoField;
 use path_meta_header::PathMetaHeader;
@@ -44,29 +45,13 @@ fn some_peering(bytes: &[u8], count: usize) -> bool
     false
 }
 
-// Whether this is a peering path: two segments, and both have peering.
-fn is_peering_path(bytes: &[u8], meta_header: PathMetaHeader) -> bool
-    requires { ⌜ pathLength «meta_header» ≤ length (now bytes) ⌝ }
-    ensures { λ r. ⌜ r ≡ rules.peeringPath (now (bytes .entry)) «meta_header» ⌝ }
-{
-    if meta_header.info_fields_count() != 2 {
-        return false;
-    }
-    let first = info_field_at(bytes, 0);
-    let second = info_field_at(bytes, 1);
-    if first.is_peering() {
-        return second.is_peering();
-    }
-    false
-}
-
 // Whether peering is set on no info field, or the path is a peering path.
 fn peering_allowed(bytes: &[u8], meta_header: PathMetaHeader) -> bool
     requires { ⌜ pathLength «meta_header» ≤ length (now bytes) ⌝ }
     ensures { λ r. ⌜ r ≡ rules.peeringAllowed (now (bytes .entry)) «meta_header» ⌝ }
 {
     if some_peering(bytes, meta_header.info_fields_count()) {
-        return is_peering_path(bytes, meta_header);
+        return is_peering_path(meta_header, bytes);
     }
     true
 }

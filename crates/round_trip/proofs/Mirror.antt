@@ -20,12 +20,12 @@ use Rattle.path_meta_header.proofs.MetaHeader.{same-meta, Lengths, lengths-read
 use Rattle.path_meta_header.proofs.Reversal.{row-is, length-reversedLengths, row-one, row-two, row-three, RowsOf, rows, rows-back, rows-infos}
 use Rattle.path_meta_header.proofs.Reversal.{rows-hops, rows-valid, rows-fit, rows-twice, rows-start, rows-segment}
 use Rattle.path_meta_header.proofs.Encoding.{Fitting}
-use Rattle.path.specs.Standard.{infoAt}
+use Rattle.path.specs.Standard.{infoAt, peeringPath}
 use Rattle.path_reverse.specs.Reverse.{reversedUnder, reversedPath}
 use Rattle.path_reverse.proofs.Reverse.{length-reversed}
 use Rattle.path_reverse.proofs.Reversed.{bytes-reversed, reversed-word, reversed-hop-field, reversed-info-field}
 use Rattle.path_reverse.proofs.Twice.{fields-twice}
-use Rattle.path_moves.specs.Rules.{somePeering, peeringPath, peeringAllowed}
+use Rattle.path_moves.specs.Rules.{somePeering, peeringAllowed}
 use Rattle.path_moves.proofs.Rules.{Known}
 use Rattle.round_trip.specs.Mirror.{reversedMetaAt, mirrorMeta, mirror}
 use Rattle.round_trip.proofs.Fields.{Spells, spelt-out}

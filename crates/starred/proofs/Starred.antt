@@ -18,11 +18,12 @@ use Rattle.starred.specs.Table.{reading, splitting, expiring, interfaceO
 pub starred : Starred
 unfolding answers wanted reading splitting expiring interfaceOfTwoByTwo moving bigEndian bytesOf numberAt room
     meta.nthField meta.metaOf meta.infoFieldsCount meta.hopFieldsCount meta.segmentOf meta.firstHopField meta.pathLength
-    meta.interfacesCount meta.segmentOfLink meta.hopFieldOf meta.lengthsValid meta.hopValid meta.infoValid meta.checked meta.readMeta
+    meta.interfacesCount meta.segmentOfLink meta.linkEnd meta.lengthsValid meta.hopValid meta.infoValid meta.checked meta.readMeta
     fields.infoFieldAt fields.hopFieldAt fields.expiryOffset fields.expiryTime
     standard.readPath standard.readRecord dataplane.readDataplane dataplane.standard
-    least.least least.hopExpiry least.segmentExpiry least.pathExpiry expiry.expiryIn interfaces.interfaceAt interfaces.interfaceIn
-    rules.ownerOf rules.spared rules.somePeering rules.peeringPath rules.peeringAllowed rules.movable
+    least.least least.hopExpiry least.segmentExpiry least.pathExpiry expiry.expiryIn
+    interfaces.countOn interfaces.hopFieldOn interfaces.interfaceAt interfaces.interfaceIn
+    rules.ownerOf rules.spared rules.somePeering standard.peeringPath rules.peeringAllowed rules.movable
     moves.takesIn moves.moveBytes moves.isLast moves.move moves.moved
     common.readCommon raw.readPacket
 starred = refl

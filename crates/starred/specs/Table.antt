@@ -30,7 +30,7 @@ expiring time e =
     let expiry = expiryIn 1 ((0x00 ∷ 0x00 ∷ 0x10 ∷ 0x00 ∷ 0x01 ∷ 0x00 ∷ 0x00 ∷ 0x00 ∷ []) ++ time ++ (0x00 ∷ e ∷ []) ++ replicate 10 0) in
     answerNumber (answerOf expiry) ∷ orElse expiry 0 ∷ []
 
--- interface i of a path of lengths 2, 2, 0: the answer's number, and the hop field that the interface belongs to
+-- interface i of a path of lengths 2, 2, 0, peering on neither segment: the answer's number, and the hop field that it belongs to
 unfoldable pub interfaceOfTwoByTwo : ℕ → List ℕ
 interfaceOfTwoByTwo i =
     let found = interfaceIn 1 ((0x00 ∷ 0x00 ∷ 0x20 ∷ 0x80 ∷ []) ++ replicate 64 0) i in

@@ -84,8 +84,10 @@ fn times(line: &mut Line, name: &str, oracle: &Oracle) -> bool {
             line.add(left.ms);
         }
         "ifcount" => {
-            add_answer(line, oracle.interfaces_count().answer);
-            line.add(oracle.interfaces_count().count);
+            let (interfaces, source) = oracle.interfaces_count();
+            line.source = source;
+            add_answer(line, interfaces.answer);
+            line.add(interfaces.count);
         }
         "iface" => {
             let (interface, source) = oracle.interface(line.index(3));

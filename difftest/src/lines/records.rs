@@ -30,7 +30,7 @@ fn views(line: &mut Line, oracle: &Oracle) {
         oracle.segment_expiry(index).path,
         oracle.expiry().path,
         left.path,
-        oracle.interfaces_count().path,
+        oracle.interfaces_count().0.path,
         interface.path,
     ] {
         line.add(path.expiry);

@@ -14,6 +14,7 @@ use scion_rs::path::{DataplanePath, Path as RustPath, PathType, StandardPath};
 use scion_rs::wire_encoding::WireDecodeWithContext;
 
 use super::{ACCEPTED, Refused, expiry_of, lend, number_of, offset, panics, record, record_with, refusal};
+use crate::model;
 use crate::tally::{Exception, Source};
 
 /// The largest now of document 01.
@@ -184,17 +185,25 @@ impl<'a> Oracle<'a> {
         (TimeLeft { answer: ACCEPTED, path: expiry.path, ms: expiry.ms as i64 - now as i64 }, Source::Model)
     }
 
-    /// How many interfaces there are.
-    pub fn interfaces_count(&self) -> InterfaceCount {
-        answered(self.standard().map(|path| InterfaceCount {
+    /// How many interfaces there are; of a peering path request 2026-03's, and not the Rust's.
+    pub fn interfaces_count(&self) -> Expected<InterfaceCount> {
+        if let Some(interfaces) = model::peering_interfaces_count(self, self.bytes) {
+            return (interfaces, Source::Excepted(Exception::PeeringInterfaces));
+        }
+        let interfaces = self.standard().map(|path| InterfaceCount {
             answer: ACCEPTED,
             path: self.record(),
             count: path.meta_header().interfaces_count(),
-        }))
+        });
+        (answered(interfaces), self.source())
     }
 
-    /// Interface `index`: the hop field by the Rust; even is its egress, odd its ingress.
+    /// Interface `index`: the hop field by the Rust; even is its egress, odd its ingress. Of a peering path request
+    /// 2026-03's, whatever the index.
     pub fn interface(&self, index: usize) -> Expected<Interface> {
+        if let Some(interface) = model::peering_interface(self, self.bytes, index) {
+            return (interface, Source::Excepted(Exception::PeeringInterfaces));
+        }
         let path = match self.standard() {
             Ok(path) => path,
             Err(answer) => return (Interface::refused(answer), self.source()),

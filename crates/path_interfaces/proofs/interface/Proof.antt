@@ -19,7 +19,7 @@ interface-at-requires c κs =
     let index = c .before .before .before in
     let told = index .before .before in
     let read = answer-ok _ _ (told .before .before .standard .ensures) (told .enum-told .given .1) in
-    let found = sym (index .hop-field-index-for-interface .ensures) ∙ ap hopFieldFound (c .before .hop .given .1) in
+    let found = sym (index .hop-field-on .ensures) ∙ ap hopFieldFound (c .before .hop .given .1) in
     interface-there _ _ (standard-readable _ _ read) _ found
 
 returns-2 : tie.Need-returns-2
@@ -33,7 +33,7 @@ returns-2 c =
     rw (
       answer-ok _ _ call accepted,
       ← record-is _ _ call accepted,
-      ← index .hop-field-index-for-interface .ensures,
+      ← index .hop-field-on .ensures,
       hop .hop .given .1,
       ← c .before .interface-at .ensures,
     )
@@ -45,7 +45,7 @@ returns-3 c =
     let index = c .before .before .before in
     let told = index .before .before in
     let read = answer-ok _ _ (told .before .before .standard .ensures) (told .enum-told .given .1) in
-    rw (read, ← index .hop-field-index-for-interface .ensures, c .before .enum-told2 .given .1) (c .refused2 .ensures)
+    rw (read, ← index .hop-field-on .ensures, c .before .enum-told2 .given .1) (c .refused2 .ensures)
 
 pub interface-spec : {M : Type 1} → statement M
 interface-spec =

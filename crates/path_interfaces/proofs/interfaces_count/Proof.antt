@@ -1,4 +1,4 @@
--- `interfaces_count` meets its contract: reading, then the count of the header.
+-- `interfaces_count` meets its contract: reading, then the count.
 use Rattle.path.proofs.Reading.{answer-ok, answer-refused, record-is}
 use Rattle.path_interfaces.specs.Interfaces as spec
 use borrow.Author.Needs.{needs}
@@ -14,10 +14,10 @@ returns c =
 returns-2 : tie.Need-returns-2
 unfolding spec.interfacesIn spec.interfaceCount
 returns-2 c =
-    let told = c .before in
+    let told = c .before .before in
     let read = told .before .before .standard .ensures in
     let accepted = told .enum-told .given .1 in
-    rw (answer-ok _ _ read accepted, ← record-is _ _ read accepted) (c .of .ensures)
+    rw (answer-ok _ _ read accepted, ← record-is _ _ read accepted, ← c .before .count-on .ensures) (c .accepted .ensures)
 
 pub interfaces-count-spec : {M : Type 1} → statement M
 interfaces-count-spec =
@@ -25,5 +25,5 @@ interfaces-count-spec =
     (tie.spec
     (λ c κs. search needs) (λ c. search needs) (λ c κs. search needs)
     returns
-    (λ c. search needs) (λ c κs. search needs)
+    (λ c. search needs) (λ c κs. search needs) (λ c κs. search needs)
     returns-2)

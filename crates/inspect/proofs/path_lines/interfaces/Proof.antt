@@ -5,10 +5,10 @@ use Rattle.inspect.proofs.path_lines.interfaces.Statement.{statement}
 use Rattle.inspect.proofs.path_lines.interfaces.Tie as tie
 
 abbrev Inv-loop : tie.InvT-loop
-Inv-loop bytes count i₀ t8 t9 t10 i = Unit {0}
+Inv-loop bytes count i₀ i = Unit {0}
 
 abbrev μ-loop : tie.MeasureT-loop
-μ-loop bytes count i₀ t8 t9 t10 i = count - i
+μ-loop bytes count i₀ i = count - i
 
 pub interfaces-spec : {M : Type 1} → statement M
 interfaces-spec =
@@ -16,7 +16,5 @@ interfaces-spec =
     (tie.spec
     Inv-loop
     μ-loop
-    (λ c κs. search needs) (λ c. search needs) (λ c κs. search needs) (λ c. search needs) (λ c κs. search needs) (λ c κs. search needs)
-    (λ c. search needs) (λ c κs. search needs) (λ c κs. search needs) (λ c. search needs) (λ c κs. search needs) (λ c κs. search needs)
-    (λ c. search needs) (λ c κs. search needs) (λ c κs. search needs) (λ c κs. search needs) (λ c. search needs) (λ c. search needs)
-    (λ c. search needs) (λ c. search needs))
+    (λ c κs. search needs) (λ c κs. search needs) (λ c. search needs) (λ c κs. search needs) (λ c. search needs) (λ c κs. search needs)
+    (λ c. search needs) (λ c. search needs) (λ c. search needs) (λ c. search needs))

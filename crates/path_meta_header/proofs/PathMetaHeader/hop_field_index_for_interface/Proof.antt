@@ -15,7 +15,7 @@ returns c =
     rw (le-ltb _ _ outside)
 
 returns-2 : tie.Need-returns-2
-unfolding spec.hopFieldOf
+unfolding spec.hopFieldOf spec.linkEnd
 returns-2 c =
     let a = c .before .before .before .args in
     let inside : a .index < spec.interfacesCount (a .self) = omega arith in
