@@ -25,7 +25,7 @@ use Rattle.path_meta_header.specs.declared.PathMetaHeader.{PathMetaHeader}
 use Rattle.path_meta_header.proofs.Segment.{inside}
 use Rattle.path_least_expiry.specs.Expiry.{hopExpiry, segmentExpiry}
 use Rattle.path_least_expiry.proofs.Least.{least-same}
-use Rattle.path.specs.Standard.{infoAt, peeringPath}
+use Rattle.path.specs.Standard.{infoAt, bothPeering, peeringPath}
 use Rattle.path.specs.Dataplane.{Extent, readDataplane, dataplaneRead, pathOf, pathLeft, standard, infoFieldIn, hopFieldIn, segmentIn, alerted}
 use Rattle.path.proofs.Reading.{Readable, record-read, standard-read}
 use Rattle.path.proofs.Kept.{readable-after, expires-after, record-after, path-alerted}
@@ -65,7 +65,7 @@ module _ (p t : List ℕ) (m : PathMetaHeader) (r : Readable p m) where
   info-after k l = info-left p t (infoStart k) (omega (arith, whole))
 
   pub peering-path-after : peeringPath (p ++ t) m ≡ peeringPath p m
-  unfolding peeringPath
+  unfolding peeringPath bothPeering
   peering-path-after = go (eqb (infoFieldsCount m) 2) refl
     where
       go : (two : Bool) → eqb (infoFieldsCount m) 2 ≡ two

@@ -7,8 +7,8 @@ use mathlib.Core.List.{List}
 use borrow.Author.Tests.{eqb-true}
 use Rattle.path_meta_header.specs.MetaHeader.{infoFieldsCount}
 use Rattle.path_meta_header.specs.declared.PathMetaHeader.{PathMetaHeader}
-use Rattle.path.specs.Standard.{peeringPath}
+use Rattle.path.specs.Standard.{bothPeering, peeringPath}
 
 pub two-segments : (bytes : List ℕ) (m : PathMetaHeader) → peeringPath bytes m ≡ true → infoFieldsCount m ≡ 2
-unfolding peeringPath
+unfolding peeringPath bothPeering
 two-segments bytes m peering = eqb-true (infoFieldsCount m) 2 (and-eq-true-iff _ _ .0 peering .0)

@@ -32,9 +32,13 @@ infoAt bytes k = infoFieldAt bytes (infoStart k)
 abbrev pub hopAt : List ℕ → PathMetaHeader → ℕ → HopField
 hopAt bytes m j = hopFieldAt bytes (hopStart m j)
 
+-- there are two info fields, n being their number, and both have peering
+unfoldable pub bothPeering : List ℕ → ℕ → Bool
+bothPeering bytes n = eqb n 2 && (peering (infoAt bytes 0) && peering (infoAt bytes 1))
+
 -- a peering path: I is 2, and both info fields have peering
 unfoldable pub peeringPath : List ℕ → PathMetaHeader → Bool
-peeringPath bytes m = eqb (infoFieldsCount m) 2 && (peering (infoAt bytes 0) && peering (infoAt bytes 1))
+peeringPath bytes m = bothPeering bytes (infoFieldsCount m)
 
 -- THE RECORD of a path: its header, and when the path expires. It is made here alone
 abbrev pub pathUnder : List ℕ → PathMetaHeader → StandardPath

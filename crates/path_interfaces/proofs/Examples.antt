@@ -15,6 +15,6 @@ unfolding hops path twoByTwo oneByOne oneByTwo single triple owner at flatMap bi
     fields.infoFieldAt fields.hopFieldAt fields.interfaceOf fields.ingressInterface fields.egressInterface
     meta.nthField meta.metaOf meta.infoFieldsCount meta.hopFieldsCount meta.segmentOf meta.pathLength
     meta.lengthsValid meta.infoValid meta.hopValid meta.checked meta.readMeta meta.interfacesCount meta.segmentOfLink meta.linkEnd
-    standard.readPath standard.readRecord standard.peeringPath dataplane.readDataplane dataplane.standard
+    standard.readPath standard.readRecord standard.bothPeering standard.peeringPath dataplane.readDataplane dataplane.standard
     interfaces.countOn interfaces.interfacesIn interfaces.hopFieldOn interfaces.interfaceAt interfaces.interfaceIn
 computed = (refl, refl, (refl, refl, refl), (refl, refl))

@@ -65,7 +65,7 @@ HopFields =
     (map (owner oneByOne) (0 ∷ 1 ∷ 2 ∷ []) ≡ ok 0 ∷ ok 1 ∷ refused NoSuchField ∷ [])
     × (map (owner oneByTwo) (0 ∷ 1 ∷ 2 ∷ 3 ∷ 4 ∷ []) ≡ ok 0 ∷ ok 1 ∷ ok 1 ∷ ok 2 ∷ refused NoSuchField ∷ [])
     × (map (owner triple) (0 ∷ 1 ∷ 2 ∷ 3 ∷ 4 ∷ 5 ∷ 6 ∷ [])
-      ≡ ok 0 ∷ ok 1 ∷ ok 2 ∷ ok 3 ∷ ok 4 ∷ ok 5 ∷ refused NoSuchField ∷ [])
+    ≡ ok 0 ∷ ok 1 ∷ ok 2 ∷ ok 3 ∷ ok 4 ∷ ok 5 ∷ refused NoSuchField ∷ [])
 
 -- lengths 2, 2 with their interfaces, the first segment against construction direction: peering on both, at the count and at the largest
 -- index; peering on one
@@ -75,9 +75,9 @@ at j number = ok (record { hop = j; interface = Id number })
 abbrev pub Interfaces : Type 0
 Interfaces =
     (map (interfaceIn 1 (twoByTwo 0x02 0x03)) (0 ∷ 1 ∷ 2 ∷ 3 ∷ 4 ∷ 5 ∷ 6 ∷ 18446744073709551615 ∷ [])
-      ≡ at 0 1 ∷ at 1 4 ∷ at 1 3 ∷ at 2 5 ∷ at 2 6 ∷ at 3 7 ∷ refused NoSuchField ∷ refused NoSuchField ∷ [])
+    ≡ at 0 1 ∷ at 1 4 ∷ at 1 3 ∷ at 2 5 ∷ at 2 6 ∷ at 3 7 ∷ refused NoSuchField ∷ refused NoSuchField ∷ [])
     × (map (interfaceIn 1 (twoByTwo 0x02 0x01)) (0 ∷ 1 ∷ 2 ∷ 3 ∷ 4 ∷ [])
-      ≡ at 0 1 ∷ at 1 4 ∷ at 2 6 ∷ at 3 7 ∷ refused NoSuchField ∷ [])
+    ≡ at 0 1 ∷ at 1 4 ∷ at 2 6 ∷ at 3 7 ∷ refused NoSuchField ∷ [])
 
 abbrev pub Computed : Type 0
 Computed = PeeringCounts × OtherCounts × HopFields × Interfaces

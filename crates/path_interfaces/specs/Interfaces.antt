@@ -86,7 +86,7 @@ EveryLink =
     (bytes : List ℕ) (m : PathMetaHeader) → standard 1 bytes ≡ ok m
     → (peeringPath bytes m ≡ true → (l : ℕ) → l + 1 < hopFieldsCount m → Joins bytes m l l)
     × (peeringPath bytes m ≡ false → (j k : ℕ) → j + 1 < hopFieldsCount m → segmentOf m j ≡ k → segmentOf m (j + 1) ≡ k
-      → Joins bytes m (j - k) j)
+    → Joins bytes m (j - k) j)
 
 -- index i is of link i / 2, which joins two neighbouring hop fields j and j + 1, and two of one segment unless on a peering path
 pub record OfLink (bytes : List ℕ) (m : PathMetaHeader) (i j : ℕ) : Type 0 where

@@ -275,8 +275,8 @@ between m valid j k below near far = go (infoFieldsCount m) (segments m valid) r
     in-2 : s0 + s1 ≤ j + 1 → (k ≡ 2) × (s0 + s1 ≤ j)
     in-2 a =
         let two = sym far ∙ in-third m (j + 1) a in
-        (two, by-lt j s0 (λ l. absurd (omega (arith, in-first m j l)))
-        (λ l. by-lt j (s0 + s1) (λ b. absurd (omega (arith, in-second m j l b))) (λ b. b)))
+        let behind : s0 ≤ j = by-lt j s0 (λ l. absurd (omega (arith, in-first m j l))) (λ l. l) in
+        (two, by-lt j (s0 + s1) (λ b. absurd (omega (arith, in-second m j behind b))) (λ b. b))
 
     -- the link's segment, from where it is known that the link is there
     found : 1 ≤ s0 → (s0 + s1 ≤ j → 1 ≤ s1) → j - k < hopFieldsCount m - infoFieldsCount m → Between m j k

@@ -17,6 +17,6 @@ unfolding along against peered peeredOtherWay unpeered met reported steps bigEnd
     meta.nthField meta.metaOf meta.infoFieldsCount meta.hopFieldsCount meta.segmentOf meta.firstHopField meta.pathLength
     meta.lengthsValid meta.infoValid meta.hopValid meta.checked meta.readMeta
     standard.readPath standard.readRecord dataplane.readDataplane dataplane.dataplaneRead dataplane.pathOf dataplane.standard dataplane.metaHeaderOf
-    rules.ownerOf rules.spared rules.somePeering standard.peeringPath rules.peeringAllowed rules.movable
+    rules.ownerOf rules.spared rules.somePeering standard.bothPeering standard.peeringPath rules.peeringAllowed rules.movable
     moves.takesIn moves.moveBytes moves.isLast moves.move moves.moved moves.walkMoves moves.walk moves.walked moves.walkAnswer moves.infoOf
 computed = ((refl, refl), (refl, refl, refl), refl)

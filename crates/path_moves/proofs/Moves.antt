@@ -19,7 +19,7 @@ use Rattle.wire_encoding.proofs.Writes.{placed-is}
 use Rattle.path_fields.specs.Fields.{infoFieldAt}
 use Rattle.path_meta_header.specs.MetaHeader as meta
 use Rattle.path_meta_header.specs.declared.PathMetaHeader.{PathMetaHeader}
-use Rattle.path.specs.Standard.{infoAt, peeringPath}
+use Rattle.path.specs.Standard.{infoAt, bothPeering, peeringPath}
 use Rattle.path_least_expiry.specs.Expiry.{pathExpiry}
 use Rattle.path_least_expiry.proofs.Kept.{expiry-same, expiry-lengths}
 use Rattle.path.specs.Dataplane.{pathOf}
@@ -275,7 +275,7 @@ module _ (bytes : List ℕ) (m : PathMetaHeader) (can : spec.CanMove bytes m) wh
   whole-moved = omega (arith, counts-kept, length-moveBytes bytes m, standing .whole)
 
   peering-moved : rules.peeringAllowed after left ≡ true
-  unfolding rules.peeringAllowed peeringPath
+  unfolding rules.peeringAllowed peeringPath bothPeering
   peering-moved =
       rw (counts-kept .0, some-peering-kept bytes m (meta.infoFieldsCount m), flags-kept bytes m 0, flags-kept bytes m 1) (able .peering)
 

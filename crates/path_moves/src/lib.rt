@@ -4,7 +4,7 @@ use errors::path_error::PathError;
 use path::dataplane::DataplanePath;
 use path::dataplane::PathAnswer;
 use path::standard::StandardPath;
-use path::standard::peering::is_peering_path;
+use path::standard::peering::both_peering;
 use path_fields::HopField;
 use path_fields::InfoField;
 use path_meta_header::PathMetaHeader;
@@ -50,8 +50,9 @@ fn peering_allowed(bytes: &[u8], meta_header: PathMetaHeader) -> bool
     requires { ⌜ pathLength «meta_header» ≤ length (now bytes) ⌝ }
     ensures { λ r. ⌜ r ≡ rules.peeringAllowed (now (bytes .entry)) «meta_header» ⌝ }
 {
-    if some_peering(bytes, meta_header.info_fields_count()) {
-        return is_peering_path(meta_header, bytes);
+    let count = meta_header.info_fields_count();
+    if some_peering(bytes, count) {
+        return both_peering(count, bytes);
     }
     true
 }

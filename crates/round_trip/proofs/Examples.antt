@@ -33,7 +33,7 @@ unfolding bigEndian bytesOf room withBit fields.infoFieldAt fields.hopFieldAt fi
     meta.hopValid meta.infoValid meta.checked meta.readMeta encoding.wordOf reversal.atStart reversal.reversedLengths reversal.reversedMeta
     standard.readPath standard.readRecord dataplane.readDataplane dataplane.standard dataplane.metaHeaderOf copy.into flatMap records
     reverse.reversedRecords reverse.flipped reverse.same reverse.reversedUnder reverse.reversedPath reverse.reversedBytes reverse.reverse
-    rules.ownerOf rules.spared rules.somePeering standard.peeringPath rules.peeringAllowed rules.movable
+    rules.ownerOf rules.spared rules.somePeering standard.bothPeering standard.peeringPath rules.peeringAllowed rules.movable
     moves.takesIn moves.moveBytes moves.isLast moves.move moves.moved moves.walkMoves moves.walk moves.walked
     moves.infoOf moves.accumulatorAfter moves.accumulatorBy
     round.begin round.byEnd round.onTheWay round.onPacket round.sent round.packetMoved round.packetWalked round.without
@@ -115,7 +115,7 @@ unfolding bigEndian room fields.infoFieldAt
     meta.nthField meta.metaOf meta.infoFieldsCount meta.hopFieldsCount meta.segmentOf meta.pathLength meta.lengthsValid
     meta.hopValid meta.infoValid meta.checked meta.readMeta
     standard.readPath standard.readRecord dataplane.readDataplane dataplane.standard dataplane.metaHeaderOf
-    rules.somePeering standard.peeringPath rules.peeringAllowed
+    rules.somePeering standard.bothPeering standard.peeringPath rules.peeringAllowed
     examples.info examples.hop examples.hops
     examples.single examples.double examples.triple examples.peered examples.shortest examples.longest asked given allBytes
 all-given = (refl, refl, refl, refl, refl, refl)

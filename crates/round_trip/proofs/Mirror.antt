@@ -20,7 +20,7 @@ use Rattle.path_meta_header.proofs.MetaHeader.{same-meta, Lengths, lengths-read
 use Rattle.path_meta_header.proofs.Reversal.{row-is, length-reversedLengths, row-one, row-two, row-three, RowsOf, rows, rows-back, rows-infos}
 use Rattle.path_meta_header.proofs.Reversal.{rows-hops, rows-valid, rows-fit, rows-twice, rows-start, rows-segment}
 use Rattle.path_meta_header.proofs.Encoding.{Fitting}
-use Rattle.path.specs.Standard.{infoAt, peeringPath}
+use Rattle.path.specs.Standard.{infoAt, bothPeering, peeringPath}
 use Rattle.path_reverse.specs.Reverse.{reversedUnder, reversedPath}
 use Rattle.path_reverse.proofs.Reverse.{length-reversed}
 use Rattle.path_reverse.proofs.Reversed.{bytes-reversed, reversed-word, reversed-hop-field, reversed-info-field}
@@ -166,7 +166,7 @@ module _ (x : List ℕ) (m : PathMetaHeader) (path : Path x m) where
       (three-ways (peering (infoAt x 0)) (peering (infoAt x 1)) (peering (infoAt x 2)))
 
   mirror-allowed : peeringAllowed (mirror m x) (mirrorMeta m) ≡ true
-  unfolding peeringAllowed peeringPath
+  unfolding peeringAllowed peeringPath bothPeering
   mirror-allowed = rw mirror-infos (same-allowed I refl rows-mirror ∙ path .known .peering)
 
   pub mirror-segment : (j : ℕ) → j < hopFieldsCount m

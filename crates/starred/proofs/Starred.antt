@@ -23,7 +23,7 @@ unfolding answers wanted reading splitting expiring interfaceOfTwoByTwo moving b
     standard.readPath standard.readRecord dataplane.readDataplane dataplane.standard
     least.least least.hopExpiry least.segmentExpiry least.pathExpiry expiry.expiryIn
     interfaces.countOn interfaces.hopFieldOn interfaces.interfaceAt interfaces.interfaceIn
-    rules.ownerOf rules.spared rules.somePeering standard.peeringPath rules.peeringAllowed rules.movable
+    rules.ownerOf rules.spared rules.somePeering standard.bothPeering standard.peeringPath rules.peeringAllowed rules.movable
     moves.takesIn moves.moveBytes moves.isLast moves.move moves.moved
     common.readCommon raw.readPacket
 starred = refl

@@ -2,15 +2,30 @@
 use path_fields::InfoField;
 use path_meta_header::PathMetaHeader;
 ghost use mathlib.Core.Path.{_≡_};
-ghost use Rattle.path_fields.specs.Fields.{peering, infoFieldAt};
+ghost use Rattle.wire_encoding.specs.Bits.{bitOf};
 ghost use Rattle.path.specs.Standard as spec;
 
-// Whether the info field that starts at `start` has peering; not where the bytes end before it.
-fn peering_at(bytes: &[u8], start: usize) -> bool
-    ensures { λ r. ⌜ r ≡ peering (infoFieldAt (now (bytes .entry)) start) ⌝ }
+// Whether peering is set among an info field's flags.
+fn has_peering(flags: u8) -> bool
+    ensures { λ r. ⌜ r ≡ bitOf 1 flags ⌝ }
 {
-    if start < bytes.len() {
-        return bytes[start] / InfoField::PEERING_FLAG % 2 == 1;
+    flags / InfoField::PEERING_FLAG % 2 == 1
+}
+
+// Whether peering is set on both of two info fields, `info_fields` being their number. Bytes that end before the second one's flags
+// have none.
+pub fn both_peering(info_fields: usize, bytes: &[u8]) -> bool
+    ensures { λ r. ⌜ r ≡ spec.bothPeering (now (bytes .entry)) «info_fields» ⌝ }
+{
+    let second = PathMetaHeader::LENGTH + InfoField::LENGTH;
+    if info_fields != 2 {
+        return false;
+    }
+    if bytes.len() <= second {
+        return false;
+    }
+    if has_peering(bytes[PathMetaHeader::LENGTH]) {
+        return has_peering(bytes[second]);
     }
     false
 }
@@ -19,11 +34,5 @@ fn peering_at(bytes: &[u8], start: usize) -> bool
 pub fn is_peering_path(meta_header: PathMetaHeader, bytes: &[u8]) -> bool
     ensures { λ r. ⌜ r ≡ spec.peeringPath (now (bytes .entry)) «meta_header» ⌝ }
 {
-    if meta_header.info_fields_count() != 2 {
-        return false;
-    }
-    if peering_at(bytes, PathMetaHeader::LENGTH) {
-        return peering_at(bytes, PathMetaHeader::LENGTH + InfoField::LENGTH);
-    }
-    false
+    both_peering(meta_header.info_fields_count(), bytes)
 }

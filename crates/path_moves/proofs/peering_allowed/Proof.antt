@@ -2,6 +2,7 @@
 use native.Mathlib.Omega.{arith}
 use borrow.Author.Needs.{needs}
 use Rattle.path_meta_header.specs.MetaHeader.{pathLength}
+use Rattle.path.specs.Standard.{peeringPath}
 use Rattle.path_moves.specs.Rules.{peeringAllowed}
 use Rattle.path_moves.proofs.peering_allowed.Statement.{statement}
 use Rattle.path_moves.proofs.peering_allowed.Tie as tie
@@ -11,10 +12,10 @@ unfolding pathLength
 some-peering-requires c κs = (omega arith, omega arith)
 
 returns : tie.Need-returns
-unfolding peeringAllowed
+unfolding peeringAllowed peeringPath
 returns c =
     let asked = c .before .before in
-    rw (← asked .before .info-fields-count .ensures .0, ← asked .some-peering .ensures, c .before .if1 .taken) (c .is-peering-path .ensures)
+    rw (← asked .before .info-fields-count .ensures .0, ← asked .some-peering .ensures, c .before .if1 .taken) (c .both-peering .ensures)
 
 returns-2 : tie.Need-returns-2
 unfolding peeringAllowed
