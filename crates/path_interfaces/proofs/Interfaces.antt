@@ -21,16 +21,16 @@ use Rattle.path.proofs.Reading.{Readable, standard-readable}
 use Rattle.path_interfaces.specs.Interfaces.{Place, countOn, hopFieldOn, interfacesIn, interfaceAt, interfaceIn, hopIsThere}
 use Rattle.path_interfaces.specs.Interfaces.{Joins, OfLink, EveryLink, EveryIndex, OtherPaths}
 
--- BY THE KIND OF PATH
+-- BY THE KIND OF PATH: which indexes are there, and of which hop fields
 
 module _ (bytes : List ℕ) (m : PathMetaHeader) where
   module _ (peering : peeringPath bytes m ≡ true) where
-    -- on a peering path an index is under 2 · (N − 1), and its hop field is half of it, rounded up
-    pub peering-there : (i : ℕ) → i < (hopFieldsCount m - 1) * 2 → hopFieldOn bytes m i ≡ ok ((i + 1) / 2)
+    -- a peering path has those under 2 · (N − 1), of hop fields i / 2 rounded up
+    peering-there : (i : ℕ) → i < (hopFieldsCount m - 1) * 2 → hopFieldOn bytes m i ≡ ok ((i + 1) / 2)
     unfolding hopFieldOn countOn
     peering-there i below = rw (peering, lt-ltb _ _ below)
 
-    pub peering-found : (i : ℕ) {j : ℕ} → hopFieldOn bytes m i ≡ ok j → (i < (hopFieldsCount m - 1) * 2) × ((i + 1) / 2 ≡ j)
+    peering-found : (i : ℕ) {j : ℕ} → hopFieldOn bytes m i ≡ ok j → (i < (hopFieldsCount m - 1) * 2) × ((i + 1) / 2 ≡ j)
     unfolding hopFieldOn countOn
     peering-found i h =
         let there = held (ltb i ((hopFieldsCount m - 1) * 2)) _ _ (rw peering at h) in

@@ -57,27 +57,28 @@ OtherCounts =
     ≡ ok 4 ∷ ok 4 ∷ ok 4 ∷ ok 2 ∷ ok 6 ∷ []
 
 -- the hop field of interface i
-unfoldable pub owner : List ℕ → ℕ → Result PathError ℕ
-owner bytes i = mapped (λ (place : Place). place .hop) (interfaceIn 1 bytes i)
+unfoldable pub hopFieldFor : List ℕ → ℕ → Result PathError ℕ
+hopFieldFor bytes i = mapped (λ (place : Place). place .hop) (interfaceIn 1 bytes i)
 
-abbrev pub HopFields : Type 0
-HopFields =
-    (map (owner oneByOne) (0 ∷ 1 ∷ 2 ∷ []) ≡ ok 0 ∷ ok 1 ∷ refused NoSuchField ∷ [])
-    × (map (owner oneByTwo) (0 ∷ 1 ∷ 2 ∷ 3 ∷ 4 ∷ []) ≡ ok 0 ∷ ok 1 ∷ ok 1 ∷ ok 2 ∷ refused NoSuchField ∷ [])
-    × (map (owner triple) (0 ∷ 1 ∷ 2 ∷ 3 ∷ 4 ∷ 5 ∷ 6 ∷ [])
+-- each, and one beyond the count: with peering on both of 1, 1 and of 1, 2, and on all of 2, 2, 2
+abbrev pub HopFieldsFound : Type 0
+HopFieldsFound =
+    (map (hopFieldFor oneByOne) (0 ∷ 1 ∷ 2 ∷ []) ≡ ok 0 ∷ ok 1 ∷ refused NoSuchField ∷ [])
+    × (map (hopFieldFor oneByTwo) (0 ∷ 1 ∷ 2 ∷ 3 ∷ 4 ∷ []) ≡ ok 0 ∷ ok 1 ∷ ok 1 ∷ ok 2 ∷ refused NoSuchField ∷ [])
+    × (map (hopFieldFor triple) (0 ∷ 1 ∷ 2 ∷ 3 ∷ 4 ∷ 5 ∷ 6 ∷ [])
     ≡ ok 0 ∷ ok 1 ∷ ok 2 ∷ ok 3 ∷ ok 4 ∷ ok 5 ∷ refused NoSuchField ∷ [])
 
--- lengths 2, 2 with their interfaces, the first segment against construction direction: peering on both, at the count and at the largest
--- index; peering on one
+-- interface `number`, of hop field j
 unfoldable pub at : ℕ → ℕ → Result PathError Place
 at j number = ok (record { hop = j; interface = Id number })
 
-abbrev pub Interfaces : Type 0
-Interfaces =
+-- of 2, 2, the first segment against construction direction: with peering on both, also at the count and at the largest index; on one
+abbrev pub InterfacesFound : Type 0
+InterfacesFound =
     (map (interfaceIn 1 (twoByTwo 0x02 0x03)) (0 ∷ 1 ∷ 2 ∷ 3 ∷ 4 ∷ 5 ∷ 6 ∷ 18446744073709551615 ∷ [])
     ≡ at 0 1 ∷ at 1 4 ∷ at 1 3 ∷ at 2 5 ∷ at 2 6 ∷ at 3 7 ∷ refused NoSuchField ∷ refused NoSuchField ∷ [])
     × (map (interfaceIn 1 (twoByTwo 0x02 0x01)) (0 ∷ 1 ∷ 2 ∷ 3 ∷ 4 ∷ [])
     ≡ at 0 1 ∷ at 1 4 ∷ at 2 6 ∷ at 3 7 ∷ refused NoSuchField ∷ [])
 
 abbrev pub Computed : Type 0
-Computed = PeeringCounts × OtherCounts × HopFields × Interfaces
+Computed = PeeringCounts × OtherCounts × HopFieldsFound × InterfacesFound

@@ -88,7 +88,7 @@ EveryLink =
     × (peeringPath bytes m ≡ false → (j k : ℕ) → j + 1 < hopFieldsCount m → segmentOf m j ≡ k → segmentOf m (j + 1) ≡ k
     → Joins bytes m (j - k) j)
 
--- index i is of link i / 2, which joins two neighbouring hop fields j and j + 1, and two of one segment unless on a peering path
+-- index i is of link i / 2, which joins the neighbouring hop fields j and j + 1; unless the path is a peering path, both are of one segment
 pub record OfLink (bytes : List ℕ) (m : PathMetaHeader) (i j : ℕ) : Type 0 where
   pub joins : Joins bytes m (i / 2) j
   pub inside : j + 1 < hopFieldsCount m

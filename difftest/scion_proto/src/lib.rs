@@ -49,7 +49,7 @@ pub fn time_left(path_type: u8, bytes: &[u8], now: u64) -> Result<i64, Refusal> 
     Ok(calls::time_left(path_type, bytes, now).result()?.ms)
 }
 
-/// How many interfaces the path has.
+/// How many interfaces the path has: two for each link, that between the segments of a peering path included.
 pub fn interfaces_count(path_type: u8, bytes: &[u8]) -> Result<usize, Refusal> {
     Ok(calls::interfaces_count(path_type, bytes).result()?.count)
 }
