@@ -105,7 +105,7 @@ segmentOfLink m l = cond (ltb (l + 1) (segmentLength m 0)) 0 (cond (ltb (l + 2) 
 unfoldable pub linkEnd : PathMetaHeader → ℕ → ℕ
 linkEnd m i = i / 2 + i % 2 + segmentOfLink m (i / 2)
 
--- 8 where there is none
+-- the same, 8 for an interface that isn't there
 unfoldable pub hopFieldOf : PathMetaHeader → ℕ → Result PathError ℕ
 hopFieldOf m i = do
   require (ltb i (interfacesCount m)) error.NoSuchField
