@@ -6,7 +6,6 @@ use mathlib.Core.Bool.{Bool, true, false, not, cond, _||_}
 use mathlib.Core.List.{List, _++_}
 use native.Mathlib.Omega.{arith}
 use lib.Bits.{bitXor}
-use lib.Dec.{eqb}
 use lib.ListN.{set, length-set}
 use lib.Seq.{sets}
 use borrow.Author.Tests.{eqb-false}

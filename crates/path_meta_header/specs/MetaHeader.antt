@@ -147,9 +147,9 @@ readMeta bytes = do
 unfoldable pub metaRead : Result DecodeError PathMetaHeader → MetaRead
 metaRead r = record { answer = decodedOf r; «meta_header» = orElse r (metaOf 0) }
 
--- LINKS
+-- LINKS INSIDE SEGMENTS
 
--- what an accepted header's links are: link l lies in one segment k, and joins hop fields l + k and l + k + 1 of it
+-- what they are, of an accepted header: link l lies in one segment k, and joins hop fields l + k and l + k + 1 of it
 pub record Link (m : PathMetaHeader) (l : ℕ) : Type 0 where
   pub segment : segmentOfLink m l < infoFieldsCount m
   pub near : segmentOf m (l + segmentOfLink m l) ≡ segmentOfLink m l
