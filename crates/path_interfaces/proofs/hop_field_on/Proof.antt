@@ -26,8 +26,10 @@ returns-2 c =
 
 returns-3 : tie.Need-returns-3
 returns-3 c =
-    let a = c .before .before .before .before .before .before .args in
-    let other = sym (c .before .before .is-peering-path .ensures) ∙ c .before .if2 .left in
+    let asked = c .before .before in
+    let counted = asked .before .before in
+    let a = counted .before .before .args in
+    let other = sym (asked .is-peering-path .ensures) ∙ c .before .if2 .left in
     c .hop-field-index-for-interface .ensures ∙ sym (other-hop-field (a .bytes .now) (a .meta-header) other (a .index))
 
 pub hop-field-on-spec : {M : Type 1} → statement M
