@@ -18,7 +18,7 @@ SIZE(ScionPath, 16); AT(ScionPath, current_info_field, 0); AT(ScionPath, current
 AT(ScionPath, segment_lengths, 3); AT(ScionPath, expiry, 8);
 _Static_assert(_Alignof(ScionPath) == 8, "alignment of ScionPath");
 SIZE(ScionPart, 16); AT(ScionPart, start, 0); AT(ScionPart, len, 8);
-SIZE(ScionHost, 20); AT(ScionHost, kind, 0); AT(ScionHost, service, 2); AT(ScionHost, bytes, 4);
+SIZE(ScionHost, 22); AT(ScionHost, kind, 0); AT(ScionHost, service, 2); AT(ScionHost, bytes, 4); AT(ScionHost, padding, 20);
 SIZE(ScionPathAnswer, 24); PATH_FIRST(ScionPathAnswer);
 SIZE(ScionPathRead, 32); PATH_FIRST(ScionPathRead); AT(ScionPathRead, length, 24);
 SIZE(ScionWrittenPath, 32); PATH_FIRST(ScionWrittenPath); AT(ScionWrittenPath, length, 24);
@@ -32,15 +32,15 @@ SIZE(ScionTimeLeft, 32); PATH_FIRST(ScionTimeLeft); AT(ScionTimeLeft, ms, 24);
 SIZE(ScionInterfaceCount, 32); PATH_FIRST(ScionInterfaceCount); AT(ScionInterfaceCount, count, 24);
 SIZE(ScionInterface, 40); PATH_FIRST(ScionInterface); AT(ScionInterface, hop_field, 24); AT(ScionInterface, id, 32);
 SIZE(ScionWalk, 40); PATH_FIRST(ScionWalk); AT(ScionWalk, moves, 24); AT(ScionWalk, arrived, 32);
-SIZE(ScionPacket, 128); PATH_FIRST(ScionPacket); AT(ScionPacket, version, 24); AT(ScionPacket, traffic_class, 25);
+SIZE(ScionPacket, 136); PATH_FIRST(ScionPacket); AT(ScionPacket, version, 24); AT(ScionPacket, traffic_class, 25);
 AT(ScionPacket, next_header, 26); AT(ScionPacket, header_length_factor, 27); AT(ScionPacket, path_type, 28);
 AT(ScionPacket, payload_length, 30); AT(ScionPacket, reserved, 32); AT(ScionPacket, flow_id, 36);
-AT(ScionPacket, destination_ia, 40); AT(ScionPacket, source_ia, 48); AT(ScionPacket, destination, 56); AT(ScionPacket, source, 76);
-AT(ScionPacket, path_part, 96); AT(ScionPacket, payload_part, 112);
-SIZE(ScionHeaders, 88); AT(ScionHeaders, version, 0); AT(ScionHeaders, traffic_class, 1); AT(ScionHeaders, next_header, 2);
+AT(ScionPacket, destination_ia, 40); AT(ScionPacket, source_ia, 48); AT(ScionPacket, destination, 56); AT(ScionPacket, source, 78);
+AT(ScionPacket, path_part, 104); AT(ScionPacket, payload_part, 120);
+SIZE(ScionHeaders, 96); AT(ScionHeaders, version, 0); AT(ScionHeaders, traffic_class, 1); AT(ScionHeaders, next_header, 2);
 AT(ScionHeaders, path_type, 3); AT(ScionHeaders, reserved, 4); AT(ScionHeaders, flow_id, 8);
 AT(ScionHeaders, header_length_factor, 16); AT(ScionHeaders, payload_length, 24); AT(ScionHeaders, destination_ia, 32);
-AT(ScionHeaders, source_ia, 40); AT(ScionHeaders, destination, 48); AT(ScionHeaders, source, 68);
+AT(ScionHeaders, source_ia, 40); AT(ScionHeaders, destination, 48); AT(ScionHeaders, source, 70);
 
 static int failed;
 #define CHECK(e) do { if (!(e)) { failed++; printf("line %d: %s\n", __LINE__, #e); } } while (0)
@@ -74,10 +74,10 @@ static bool ok(ScionAnswer a, ScionPath p, unsigned hop) {
     return a.number == 0 && a.value == 0 && is_record(p, 2, hop, 0x2A, 1, 2, 3, first_expiry);
 }
 
-static bool is_host(ScionHost h, unsigned kind, unsigned service, const uint8_t *bytes, size_t n) {
+static bool is_host(ScionHost h, unsigned kind, unsigned service, const uint8_t *bytes, size_t n, unsigned padding) {
     uint8_t all[16] = {0};
     memcpy(all, bytes, n);
-    return h.kind == kind && h.service == service && memcmp(h.bytes, all, 16) == 0;
+    return h.kind == kind && h.service == service && memcmp(h.bytes, all, 16) == 0 && h.padding == padding;
 }
 
 /* Whether all of these bytes are EE. */
@@ -114,6 +114,44 @@ static void peering_interfaces(void) {
         CHECK(found.answer.number == 0 && found.hop_field == i && found.id == one[i]);
     }
     CHECK(scion_interface(1, path, sizeof path, 4).answer.number == SCION_NO_SUCH_FIELD);
+}
+
+/* The headers that write a packet again: every value as it was read. */
+static ScionHeaders again(ScionPacket p) {
+    return (ScionHeaders){
+        .version = p.version, .traffic_class = p.traffic_class, .next_header = p.next_header, .path_type = p.path_type,
+        .reserved = p.reserved, .flow_id = p.flow_id, .header_length_factor = p.header_length_factor,
+        .payload_length = p.payload_length, .destination_ia = p.destination_ia, .source_ia = p.source_ia,
+        .destination = p.destination, .source = p.source,
+    };
+}
+
+/* A service's padding is read and written again; in a reply that is made anew it is zero. No other host has one. */
+static void service_padding(void) {
+    static const uint8_t none[16];
+    uint8_t packet[38] = {0x07, 0x61, 0x23, 0x45, 0x11, 9, 0, 2, 0, 0x40, 0x5A, 0xA5, [12] = 1, [19] = 2, [20] = 3, [27] = 4,
+        [28] = 0x00, 0x02, 0xBE, 0xEF, 10, 11, 12, 13, 14, 15};
+    uint8_t dst[36];
+    ScionPacket p = scion_read_packet(packet, sizeof packet);
+    CHECK(p.answer.number == 0 && is_host(p.destination, 4, 2, none, 16, 0xBEEF) && is_host(p.source, 0, 0, packet + 32, 4, 0));
+    CHECK(p.path_part.len == 0 && p.payload_part.start == 36);
+    CHECK(scion_write_headers(again(p), NULL, 0, dst, 36).number == 0 && memcmp(dst, packet, 36) == 0);
+    ScionHeaders reply = scion_new_headers(p.source_ia, p.source, p.destination_ia, p.destination, 0, 0, 0x11, 0, 1);
+    CHECK(is_host(reply.source, 4, 2, none, 16, 0) && is_host(reply.destination, 0, 0, packet + 32, 4, 0));
+    CHECK(scion_write_headers(reply, NULL, 0, dst, 36).number == 0 && memcmp(dst + 32, "\x00\x02\x00\x00", 4) == 0);
+    memset(dst, 0xEE, sizeof dst);
+    CHECK(scion_write_new_headers(p.source_ia, p.source, p.destination_ia, p.destination, 0, 0x11, 0, 1, NULL, 0, dst, 36).number == 0
+        && memcmp(dst + 28, packet + 32, 4) == 0 && memcmp(dst + 32, "\x00\x02\x00\x00", 4) == 0);
+
+    /* As the source, after an IPv4 host whose padding, 7 by hand, is not looked at. */
+    p.source = p.destination;
+    p.source.service = 0x8002;
+    p.source.padding = 0x0001;
+    p.destination = (ScionHost){.kind = SCION_HOST_IPV4, .bytes = {10, 11, 12, 13}, .padding = 7};
+    CHECK(scion_write_headers(again(p), NULL, 0, dst, 36).number == 0 && memcmp(dst + 28, "\x0A\x0B\x0C\x0D\x80\x02\x00\x01", 8) == 0);
+    memcpy(packet, dst, 36);
+    p = scion_read_packet(packet, sizeof packet);
+    CHECK(p.answer.number == 0 && is_host(p.destination, 0, 0, packet + 28, 4, 0) && is_host(p.source, 4, 0x8002, none, 16, 1));
 }
 
 int main(void) {
@@ -201,25 +239,28 @@ int main(void) {
     CHECK(is_zero(scion_copy_path(2, path, len, dst, len).path) && is_zero(scion_reverse_path(2, path, len, dst, len).path));
 
     /* Headers: an IPv6 destination, a service as source. They are written, and read back as a packet. */
-    ScionHost to = {SCION_HOST_IPV6, 0, {1, 2, 3, 4, 5, 6, 7, 8, 9, 10, 11, 12, 13, 14, 15, 16}};
-    ScionHost from = {SCION_HOST_SERVICE, 0xABCD, {0}};
+    ScionHost to = {SCION_HOST_IPV6, 0, {1, 2, 3, 4, 5, 6, 7, 8, 9, 10, 11, 12, 13, 14, 15, 16}, 0};
+    ScionHost from = {SCION_HOST_SERVICE, 0xABCD, {0}, 0};
     ScionHeaders h = scion_new_headers(0x1112131415161718, to, 0x2122232425262728, from, 1, len, 0x31, 0x32, 0x33343);
     CHECK(h.version == 0 && h.traffic_class == 0 && h.reserved == 0 && h.next_header == 0x31 && h.path_type == 1
         && h.flow_id == 0x33343 && h.header_length_factor == 37 && h.payload_length == 0x32
-        && h.destination_ia == 0x1112131415161718 && h.source_ia == 0x2122232425262728 && is_host(h.destination, 3, 0, to.bytes, 16)
-        && is_host(h.source, 4, 0xABCD, from.bytes, 16) && scion_headers_length(h, len) == 148);
+        && h.destination_ia == 0x1112131415161718 && h.source_ia == 0x2122232425262728 && is_host(h.destination, 3, 0, to.bytes, 16, 0)
+        && is_host(h.source, 4, 0xABCD, from.bytes, 16, 0) && scion_headers_length(h, len) == 148);
     a = scion_write_new_headers(0x1112131415161718, to, 0x2122232425262728, from, 1, 0x31, 0x32, 0x33343, path, len, dst, 148);
     CHECK(a.number == 0 && scion_write_headers(h, path, len, b, 148).number == 0 && memcmp(dst, b, 148) == 0);
     h.traffic_class = 0x41;
     h.reserved = 0x4243;
+    h.source.padding = 0x4445;
     a = scion_write_headers(h, path, len, b, 148);
     CHECK(a.number == 0 && a.value == 0 && memcmp(b + 48, path, len) == 0);
     ScionPacket p = scion_read_packet(b, 200);
     CHECK(ok(p.answer, p.path, 4) && p.version == 0 && p.traffic_class == 0x41 && p.next_header == 0x31 && p.header_length_factor == 37
         && p.path_type == 1 && p.payload_length == 0x32 && p.reserved == 0x4243 && p.flow_id == 0x33343
-        && p.destination_ia == 0x1112131415161718 && p.source_ia == 0x2122232425262728 && is_host(p.destination, 3, 0, to.bytes, 16)
-        && is_host(p.source, 4, 0xABCD, from.bytes, 16) && p.path_part.start == 48 && p.path_part.len == len
+        && p.destination_ia == 0x1112131415161718 && p.source_ia == 0x2122232425262728 && is_host(p.destination, 3, 0, to.bytes, 16, 0)
+        && is_host(p.source, 4, 0xABCD, from.bytes, 16, 0x4445) && p.path_part.start == 48 && p.path_part.len == len
         && p.payload_part.start == 148 && p.payload_part.len == 0x32);
+    CHECK(scion_write_headers(again(p), b + 48, len, dst, 148).number == 0 && memcmp(dst, b, 148) == 0);
+    service_padding();
     h.version = 5;
     CHECK(scion_write_headers(h, path, len, b, 148).number == 0 && b[0] == 0x54);
     a = scion_read_packet(b, 200).answer;

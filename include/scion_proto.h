@@ -27,7 +27,7 @@
 #include <stdint.h>
 
 /* Raised whenever a struct or a call changes. Header and archive have to be of one commit; examples/layout.c checks that they agree. */
-#define SCION_PROTO_VERSION 4
+#define SCION_PROTO_VERSION 5
 
 #ifdef __cplusplus
 extern "C" {
@@ -115,11 +115,14 @@ typedef struct {
     size_t len;
 } ScionPart;
 
-/* A host: a service's number and no bytes, or the first 4 * (kind % 4 + 1) of `bytes` as they are on the wire, the others zero. */
+/* A host: a service's number and no bytes, or the first 4 * (kind % 4 + 1) of `bytes` as they are on the wire, the others zero.
+ * `padding` is the two bytes that follow a service's number on the wire, 0 as a rule. Any other host has none: it is read as 0, and
+ * not looked at when it is written. The field stands last, so that {kind, service, {bytes}} leaves it 0. */
 typedef struct {
     uint8_t kind;
     uint16_t service;
     uint8_t bytes[16];
+    uint16_t padding;
 } ScionHost;
 
 typedef struct {
@@ -290,10 +293,14 @@ ScionWalk scion_walk(uint8_t path_type, uint8_t *bytes, size_t len, size_t limit
 ScionWrittenPath scion_copy_path(uint8_t path_type, const uint8_t *bytes, size_t len, uint8_t *dst, size_t dst_len);
 ScionWrittenPath scion_reverse_path(uint8_t path_type, const uint8_t *bytes, size_t len, uint8_t *dst, size_t dst_len);
 
-/* Writing: the headers of a path of `path_len` bytes with version, traffic class and reserved 0 and the factor that follows from
- * the lengths; how many bytes they take with a path, SIZE_MAX where no number can say it; and the bytes themselves, path included,
- * into a destination of that size. With the factor that follows from the lengths, more than 1,023 bytes get 12. flow_id has 20 bits.
- * A path of type 0 adds no bytes; the bytes of any other are written as given, unread. path and dst must not overlap. */
+/* Writing: the headers of a path of `path_len` bytes with version, traffic class, reserved and both paddings 0, whatever padding the
+ * hosts have, and the factor that follows from the lengths; how many bytes they take with a path, SIZE_MAX where no number can say it;
+ * and the bytes themselves, path included, into a destination of that size. With the factor that follows from the lengths, more than
+ * 1,023 bytes get 12. flow_id has 20 bits. A path of type 0 adds no bytes; the bytes of any other are written as given, unread. path
+ * and dst must not overlap.
+ *
+ * A packet that was read is written again byte for byte: hand over every value of its ScionPacket as it is, factor, reserved and the
+ * hosts' padding too, with the bytes of path_part as the path, into payload_part.start bytes: those before its payload. */
 ScionHeaders scion_new_headers(uint64_t destination_ia, ScionHost destination, uint64_t source_ia, ScionHost source,
                                uint8_t path_type, size_t path_len, uint8_t next_header, size_t payload_length, uint32_t flow_id);
 size_t scion_headers_length(ScionHeaders headers, size_t path_len);

@@ -2,7 +2,7 @@
 
 use std::fmt::Debug;
 
-use scion_proto::{Ends, Headers, HopField, InfoField, Path, calls};
+use scion_proto::{Ends, Headers, HopField, InfoField, Packet, Path, calls};
 use scion_rs::path::standard::{HopField as RustHopField, InfoField as RustInfoField};
 
 use crate::lent::Lent;
@@ -279,12 +279,24 @@ impl Checker {
         self.record_of(&answer);
     }
 
-    /// A packet split.
-    pub fn read_packet(&mut self, bytes: &[u8]) {
+    /// A packet split, and written again where it is accepted.
+    pub fn read_packet(&mut self, bytes: &[u8]) -> Packet {
         self.source.set(bytes);
-        let expected = (oracle::packet::read_packet(bytes), Source::Rust);
+        let packet = oracle::packet::read_packet(bytes);
         let input = Input { path_type: 0, bytes };
-        self.reading(Call::ReadPacket, input, "packet", expected, calls::read_packet);
+        self.reading(Call::ReadPacket, input, "packet", (packet, Source::Rust), calls::read_packet);
+        if packet.answer == ACCEPTED {
+            self.write_again(&packet, bytes);
+        }
+        packet
+    }
+
+    /// The headers of a packet that was read, written with its own path: as any headers, and besides as they arrived.
+    fn write_again(&mut self, packet: &Packet, bytes: &[u8]) {
+        let (headers, arrived) = (packet.headers(), &bytes[..packet.payload_part.start]);
+        self.write_headers(&headers, packet.path_part.of(bytes), arrived.len());
+        let words = || describe(Input { path_type: packet.path_type, bytes }, &("written again", headers));
+        self.tally.bytes(Call::WriteHeaders, self.dst.bytes(), arrived, words);
     }
 
     /// Headers made for a path, and how long they are.

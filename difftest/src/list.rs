@@ -3,7 +3,10 @@
 use std::fs;
 use std::path::Path;
 
+use scion_proto::{Ends, Host};
+
 use crate::lines;
+use crate::model;
 use crate::random::Random;
 use crate::shapes::{self, Lengths, PacketParts, Pointers};
 use crate::tally::hex;
@@ -531,12 +534,12 @@ fn addresses(random: &mut Random, subject: &mut Subject) {
     subject.note("Address headers of every pair of kinds: whole, or one byte short; written, or into another size.");
     for kinds in 0..=255u8 {
         let (destination, source) = (kinds >> 4, kinds & 15);
-        let length = 16 + 4 * (usize::from(destination % 4) + 1) + 4 * (usize::from(source % 4) + 1);
+        let length = 16 + hosts_length(kinds);
         let cut = usize::from(random.once_in(4));
         subject.call(format!("address {destination} {source} {}", hex(&random.bytes(length - cut))));
         if kinds % 3 == 0 {
             let size = length + random.pick(&[0, 0, 0, 1]) - random.pick(&[0, 0, 0, 1]);
-            subject.call(format!("putaddress {} {}", ends_words(random, kinds), word(&vec![0xee; size])));
+            subject.call(format!("putaddress {} {}", any_ends_words(random, kinds), word(&vec![0xee; size])));
         }
     }
     for length in 0..=24 {
@@ -557,7 +560,10 @@ fn named_addresses(random: &mut Random, subject: &mut Subject) {
         }
         let length = 16 + hosts_length(kinds);
         for size in [length, length, length - 1, length + 1, 0] {
-            subject.call(format!("newaddr {} {}", ends_words(random, kinds), word(&vec![0xee; size])));
+            let ends = shapes::ends(random, kinds >> 4, kinds & 15);
+            let (one, other) = (host_words(&ends.destination), host_words(&ends.source));
+            let networks = format!("{} {}", ends.destination_ia, ends.source_ia);
+            subject.call(format!("newaddr {networks} {one} {other} {}", word(&vec![0xee; size])));
         }
     }
 }
@@ -702,22 +708,26 @@ fn order(count: usize, bits: usize) -> String {
     (0..count).map(|k| if bits >> (k % 64) & 1 == 0 { 'f' } else { 'b' }).collect()
 }
 
-/// The words of a host.
-fn host_words(host: &scion_proto::Host) -> String {
-    let length = if host.kind == 4 { 0 } else { 4 * (usize::from(host.kind % 4) + 1) };
+/// The words of an address's host.
+fn host_words(host: &Host) -> String {
+    let length = if host.kind == 4 { 0 } else { shapes::host_length(host.kind) };
     format!("{} {} {}", host.kind, host.service, hex(&host.bytes[..length]))
 }
 
-/// The words of two ends.
-fn ends_words(random: &mut Random, kinds: u8) -> String {
-    let ends = shapes::ends(random, kinds >> 4, kinds & 15);
-    let (destination, source) = (host_words(&ends.destination), host_words(&ends.source));
-    format!("{} {} {destination} {source}", ends.destination_ia, ends.source_ia)
+/// The words of an address header, whose hosts have a padding each.
+fn ends_words(ends: &Ends) -> String {
+    let host = |host: &Host| format!("{} {}", host_words(host), host.padding);
+    format!("{} {} {} {}", ends.destination_ia, ends.source_ia, host(&ends.destination), host(&ends.source))
+}
+
+/// The words of any address header of these kinds.
+fn any_ends_words(random: &mut Random, kinds: u8) -> String {
+    ends_words(&shapes::ends(random, kinds >> 4, kinds & 15))
 }
 
 /// How many bytes the hosts of two kinds take.
 fn hosts_length(kinds: u8) -> usize {
-    4 * (usize::from(kinds >> 4 & 3) + 1) + 4 * (usize::from(kinds & 3) + 1)
+    shapes::host_length(kinds >> 4) + shapes::host_length(kinds & 15)
 }
 
 /// Headers made and written, with every answer.
@@ -728,14 +738,16 @@ fn writing(random: &mut Random) -> Subject {
         let (kind, length) = (random.pick(&[0, 2, 255]), random.below(20));
         let added = if kind == 0 { 0 } else { 3 + length };
         let dst = word(&vec![0xee; 28 + hosts_length(kinds) + added as usize]);
-        subject.call(format!("new 17 9 1 {kind} {} 010203+{length} {dst}", ends_words(random, kinds)));
+        subject.call(format!("new 17 9 1 {kind} {} 010203+{length} {dst}", any_ends_words(random, kinds)));
     }
     for length in [0, 1, 3, 4, 5, 8, 980, 984, 987, 988, 1200] {
         let path = if length == 0 { String::from("-") } else { format!("aa+{}", length - 1) };
-        subject.call(format!("new 17 0 1 2 {} {path} 00+{}", ends_words(random, 0), 35 + length));
+        subject.call(format!("new 17 0 1 2 {} {path} 00+{}", any_ends_words(random, 0), 35 + length));
     }
     subject.note("Headers written: 10, 3, 12, 11, 9 in this order, and what is written.");
-    let ends = ends_words(random, 0x04);
+    let mut ends = shapes::ends(random, 0, 4);
+    ends.source.padding = 0;
+    let ends = ends_words(&ends);
     for (flow, factor, payload, size) in faults() {
         let dst = word(&vec![0xee; size]);
         subject.call(format!("write 0 171 {flow} 17 {factor} {payload} 2 65535 {ends} 0102030405060708 {dst}"));
@@ -744,7 +756,7 @@ fn writing(random: &mut Random) -> Subject {
         subject.call(format!("write {version} 0 1 17 11 0 0 0 {ends} 01020304 {}", word(&[0xee; 36])));
     }
     for kinds in (0..=255u8).step_by(3) {
-        let ends = ends_words(random, kinds);
+        let ends = any_ends_words(random, kinds);
         let dst = word(&vec![0; 28 + hosts_length(kinds) + 3]);
         subject.call(format!("write 0 0 1 17 9 5 7 0 {ends} 010203 {dst}"));
     }
@@ -752,7 +764,7 @@ fn writing(random: &mut Random) -> Subject {
     for path in [sample([1, 0, 0], 1, 0, 0), sample([2, 1, 0], 1, 2, 63), vec![0, 0, 0x20, 1]] {
         let dst = word(&vec![0xee; 36 + path.len()]);
         let factor = (36 + path.len()) / 4;
-        subject.call(format!("write 0 0 1 17 {factor} 0 1 0 {} {} {dst}", ends_words(random, 0), word(&path)));
+        subject.call(format!("write 0 0 1 17 {factor} 0 1 0 {} {} {dst}", any_ends_words(random, 0), word(&path)));
     }
     subject
 }
@@ -768,6 +780,95 @@ fn faults() -> Vec<(u32, usize, usize, usize)> {
         }
     }
     all
+}
+
+/// The padding of services, by request 2026-05: read, written, zero in new headers, and ignored of any other host.
+fn padding() -> Subject {
+    let mut subject = Subject::new("padding");
+    subject.note("A service with a padding at either end, beside every kind of host, whose own is ignored.");
+    for other in 0..16 {
+        padded(&mut subject, 0x40 | other, [0xbeef, 1]);
+        if other != 4 {
+            padded(&mut subject, other << 4 | 4, [0xffff, 0x100]);
+        }
+    }
+    subject.note("Two services with every border of a padding, none among them.");
+    for paddings in [[0, 0], [0, 1], [1, 0], [0xff, 0xff00], [0x100, 0xff], [0xffff, 0xffff]] {
+        padded(&mut subject, 0x44, paddings);
+    }
+    subject.note("Paddings given for hosts that are no services: ignored, and the Rust writes the same.");
+    for kind in (0..16).filter(|kind| *kind != 4) {
+        write_padded(&mut subject, &padded_ends(kind << 4 | kind, [0xffff, 1]));
+    }
+    refused_padding(&mut subject);
+    subject
+}
+
+/// Services that are cut short, and headers with paddings that are not written.
+fn refused_padding(subject: &mut Subject) {
+    subject.note("Services cut short at every byte, and headers that are refused for other reasons.");
+    let ends = padded_ends(0x44, [0xbeef, 1]);
+    let address = padded_address(&ends);
+    for length in 16..address.len() {
+        subject.call(format!("address 4 4 {}", hex(&address[..length])));
+        subject.call(format!("packet 000000011109000000440000{}", hex(&address[..length])));
+    }
+    let words = ends_words(&ends);
+    for (flow, factor, payload, size) in
+        [(1 << 20, 9, 0, 36), (1, 0, 0, 36), (1, 256, 0, 36), (1, 9, 65_536, 36), (1, 9, 0, 35), (1, 9, 0, 37)]
+    {
+        let dst = word(&vec![0xee; size]);
+        subject.call(format!("write 0 0 {flow} 17 {factor} {payload} 0 0 {words} - {dst}"));
+    }
+    for size in [0, 23, 25] {
+        subject.call(format!("putaddress {words} {}", word(&vec![0xee; size])));
+    }
+}
+
+/// Two ends of these kinds with these paddings, their other values told apart.
+fn padded_ends(kinds: u8, paddings: [u16; 2]) -> Ends {
+    let host = |kind: u8, first: u8, service: u16, padding: u16| {
+        let mut host = Host { kind, padding, ..Host::default() };
+        if kind == 4 {
+            host.service = service;
+        } else {
+            let bytes = &mut host.bytes[..shapes::host_length(kind)];
+            bytes.iter_mut().zip(first..).for_each(|(byte, value)| *byte = value);
+        }
+        host
+    };
+    Ends {
+        destination_ia: 0x0001_ff00_0000_0110,
+        destination: host(kinds >> 4, 0xd0, 2, paddings[0]),
+        source_ia: 0x0002_ff00_0000_0220,
+        source: host(kinds & 15, 0x50, 0x8002, paddings[1]),
+    }
+}
+
+/// The bytes of an address header.
+fn padded_address(ends: &Ends) -> Vec<u8> {
+    let mut bytes = vec![0; 16 + hosts_length(ends.destination.kind << 4 | ends.source.kind)];
+    model::write_address(ends, &mut bytes);
+    bytes
+}
+
+/// A packet and an address header with these paddings read, and then written.
+fn padded(subject: &mut Subject, kinds: u8, paddings: [u16; 2]) {
+    let ends = padded_ends(kinds, paddings);
+    let address = padded_address(&ends);
+    let factor = (12 + address.len()) / 4;
+    subject.call(format!("packet 0ab1234511{factor:02x}000000{kinds:02x}abcd{}", hex(&address)));
+    subject.call(format!("address {} {} {}", kinds >> 4, kinds & 15, hex(&address)));
+    write_padded(subject, &ends);
+}
+
+/// An address header written alone, as that packet's and as that of new headers.
+fn write_padded(subject: &mut Subject, ends: &Ends) {
+    let (words, length) = (ends_words(ends), padded_address(ends).len());
+    let [alone, whole] = [length, 12 + length].map(|size| word(&vec![0xee; size]));
+    subject.call(format!("putaddress {words} {alone}"));
+    subject.call(format!("write 0 171 74565 17 {} 0 0 43981 {words} - {whole}", (12 + length) / 4));
+    subject.call(format!("new 17 0 74565 0 {words} - {whole}"));
 }
 
 /// Writes a subject's lines to files of at most so many bytes; how many files and lines.
@@ -800,6 +901,7 @@ fn subjects() -> Vec<Subject> {
         writing(&mut random),
         runs(&mut random),
         records(&mut random),
+        padding(),
     ]
 }
 

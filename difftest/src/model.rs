@@ -1,7 +1,7 @@
 //! Document 01's rules for what the Rust lacks or leaves open, written from its text alone: moves, walks,
 //! accumulators by a path alone, when a path expires that a move left, the times of a record (request 2026-01), the
-//! interfaces of a peering path (request 2026-03), what an end holds after an arrival (request 2026-08), and the
-//! writing of headers that the Rust can't build.
+//! interfaces of a peering path (request 2026-03), the padding of a service (request 2026-05), what an end holds after an
+//! arrival (request 2026-08), and the writing of headers that the Rust can't build.
 
 use std::cell::Cell;
 
@@ -10,8 +10,8 @@ use scion_proto::{Answer, Ends, Headers, Host, Interface, InterfaceCount, Path, 
 use crate::oracle::path::{LATEST_NOW, Oracle};
 use crate::oracle::{ACCEPTED, Refused, refusal};
 
-/// A plausible wrong rule of moving, of interfaces, of times or of arrivals, put in the right one's place to see that
-/// the run's inputs tell them apart.
+/// A plausible wrong rule of moving, of interfaces, of times, of arrivals or of padding, put in the right one's place to
+/// see that the run's inputs tell them apart.
 #[derive(Debug, Clone, Copy, PartialEq)]
 pub enum Twist {
     None,
@@ -51,10 +51,19 @@ pub enum Twist {
     NoExpiryIsRefused,
     NothingIsLeftOnceItHasExpired,
     EndHoldsTheWholeDestination,
+    PaddingIsDropped,
+    PaddingOfTheOtherHostIsRead,
+    PaddingOfAnyHostIsRead,
+    PaddingIsReadTurned,
+    PaddingIsWrittenAsZero,
+    PaddingOfTheOtherHostIsWritten,
+    PaddingOfAnyHostIsWritten,
+    PaddingIsWrittenTurned,
+    NewHeadersKeepThePadding,
 }
 
 /// All the wrong rules.
-pub const TWISTS: [Twist; 36] = [
+pub const TWISTS: [Twist; 45] = [
     Twist::OwnerIsAlwaysTheFirst,
     Twist::OwnerIsAlwaysTheNext,
     Twist::PeeringSparesEveryOwner,
@@ -91,6 +100,15 @@ pub const TWISTS: [Twist; 36] = [
     Twist::NoExpiryIsRefused,
     Twist::NothingIsLeftOnceItHasExpired,
     Twist::EndHoldsTheWholeDestination,
+    Twist::PaddingIsDropped,
+    Twist::PaddingOfTheOtherHostIsRead,
+    Twist::PaddingOfAnyHostIsRead,
+    Twist::PaddingIsReadTurned,
+    Twist::PaddingIsWrittenAsZero,
+    Twist::PaddingOfTheOtherHostIsWritten,
+    Twist::PaddingOfAnyHostIsWritten,
+    Twist::PaddingIsWrittenTurned,
+    Twist::NewHeadersKeepThePadding,
 ];
 
 thread_local! {
@@ -436,14 +454,39 @@ pub fn record_time_left(record: &Path, now: u64) -> TimeLeft {
     TimeLeft { answer: ACCEPTED, path: *record, ms }
 }
 
-/// A host's length.
-fn host_length(host: &Host) -> usize {
-    4 * (usize::from(host.kind % 4) + 1)
+/// The length of a host of a kind.
+fn host_length(kind: u8) -> usize {
+    4 * (usize::from(kind % 4) + 1)
+}
+
+/// The paddings of the two hosts of these kinds that `bytes` begin with, the destination's first.
+pub fn paddings([destination, source]: [u8; 2], bytes: &[u8]) -> [u16; 2] {
+    let (first, second) = bytes.split_at(host_length(destination));
+    let found = [padding(destination, first), padding(source, second)];
+    if has(Twist::PaddingOfTheOtherHostIsRead) { [found[1], found[0]] } else { found }
+}
+
+/// The padding of the host of a kind that `bytes` begin with: a service's is the number in the two bytes after its own, any
+/// other host's is 0.
+fn padding(kind: u8, bytes: &[u8]) -> u16 {
+    let number = u16::from_be_bytes([bytes[2], bytes[3]]);
+    match TWIST.get() {
+        Twist::PaddingOfAnyHostIsRead => number,
+        Twist::PaddingIsDropped => 0,
+        Twist::PaddingIsReadTurned if kind == 4 => number.swap_bytes(),
+        _ if kind == 4 => number,
+        _ => 0,
+    }
 }
 
 /// How many path bytes are written: none for type 0.
 fn path_bytes(path_type: u8, path_len: usize) -> usize {
     if path_type == 0 { 0 } else { path_len }
+}
+
+/// A host of new headers: its padding is 0, whatever was given.
+fn new_host(host: Host) -> Host {
+    if has(Twist::NewHeadersKeepThePadding) { host } else { Host { padding: 0, ..host } }
 }
 
 /// The headers that are made for two ends and a path.
@@ -462,8 +505,8 @@ pub fn new_headers(
         payload_length,
         destination_ia: ends.destination_ia,
         source_ia: ends.source_ia,
-        destination: ends.destination,
-        source: ends.source,
+        destination: new_host(ends.destination),
+        source: new_host(ends.source),
         ..Headers::default()
     };
     headers.header_length_factor = headers_length(&headers, path_len) / 4;
@@ -472,17 +515,36 @@ pub fn new_headers(
 
 /// How many bytes headers take with a path.
 pub fn headers_length(headers: &Headers, path_len: usize) -> usize {
-    let hosts = host_length(&headers.destination) + host_length(&headers.source);
+    let hosts = host_length(headers.destination.kind) + host_length(headers.source.kind);
     12 + 16 + hosts + path_bytes(headers.path_type, path_len)
 }
 
-/// A host's bytes as written.
+/// A host's bytes as written: a service's are its number and its padding; the padding of any other host is not looked at.
 fn host_bytes(host: &Host) -> Vec<u8> {
+    let padding = match TWIST.get() {
+        Twist::PaddingIsWrittenAsZero => [0; 2],
+        Twist::PaddingIsWrittenTurned => host.padding.to_le_bytes(),
+        _ => host.padding.to_be_bytes(),
+    };
     if host.kind == 4 {
-        let [high, low] = host.service.to_be_bytes();
-        return vec![high, low, 0, 0];
+        return [host.service.to_be_bytes(), padding].concat();
     }
-    host.bytes[..host_length(host)].to_vec()
+    let mut bytes = host.bytes[..host_length(host.kind)].to_vec();
+    if has(Twist::PaddingOfAnyHostIsWritten) && host.padding != 0 {
+        bytes[2..4].copy_from_slice(&padding);
+    }
+    bytes
+}
+
+/// The bytes of both networks and both hosts.
+fn address_bytes(ends: &Ends) -> Vec<u8> {
+    let mut hosts = [ends.destination, ends.source];
+    if has(Twist::PaddingOfTheOtherHostIsWritten) {
+        [hosts[0].padding, hosts[1].padding] = [hosts[1].padding, hosts[0].padding];
+    }
+    let mut bytes = [ends.destination_ia, ends.source_ia].map(u64::to_be_bytes).concat();
+    bytes.extend(hosts.iter().flat_map(host_bytes));
+    bytes
 }
 
 /// The refusals of writing, in document 01's order but for the size of the destination.
@@ -507,10 +569,12 @@ fn header_bytes(headers: &Headers, path: &[u8]) -> Vec<u8> {
     bytes.extend((headers.payload_length as u16).to_be_bytes());
     bytes.extend([headers.path_type, headers.destination.kind << 4 | headers.source.kind]);
     bytes.extend(headers.reserved.to_be_bytes());
-    bytes.extend(headers.destination_ia.to_be_bytes());
-    bytes.extend(headers.source_ia.to_be_bytes());
-    bytes.extend(host_bytes(&headers.destination));
-    bytes.extend(host_bytes(&headers.source));
+    bytes.extend(address_bytes(&Ends {
+        destination_ia: headers.destination_ia,
+        destination: headers.destination,
+        source_ia: headers.source_ia,
+        source: headers.source,
+    }));
     bytes.extend(&path[..path_bytes(headers.path_type, path.len())]);
     bytes
 }
@@ -520,10 +584,19 @@ pub fn write_headers(headers: &Headers, path: &[u8], dst: &mut [u8]) -> Answer {
     if let Some(answer) = refused_to_write(headers) {
         return answer;
     }
-    let bytes = header_bytes(headers, path);
+    put(&header_bytes(headers, path), dst)
+}
+
+/// Networks and hosts of kinds below 16 written to `dst`.
+pub fn write_address(ends: &Ends, dst: &mut [u8]) -> Answer {
+    put(&address_bytes(ends), dst)
+}
+
+/// Bytes written to a destination of their number, 9 for any other.
+fn put(bytes: &[u8], dst: &mut [u8]) -> Answer {
     if dst.len() != bytes.len() {
         return refusal(9);
     }
-    dst.copy_from_slice(&bytes);
+    dst.copy_from_slice(bytes);
     ACCEPTED
 }

@@ -1,6 +1,9 @@
-//! Packets compared: every kind, type and factor, cuts at every byte, random good ones and damaged ones.
+//! Packets compared: every kind, type and factor, cuts at every byte, random good ones and damaged ones; replies to them.
 
-use crate::check::Checker;
+use scion_proto::Ends;
+
+use crate::check::{Checker, Input};
+use crate::oracle::ACCEPTED;
 use crate::oracle::packet::same_from_slice;
 use crate::random::Random;
 use crate::shapes::{self, PacketParts, Pointers};
@@ -16,12 +19,31 @@ fn small(random: &mut Random, kinds: u8, path_type: u8, payload: usize) -> Vec<u
     shapes::packet_of(random, &PacketParts { kinds, path_type, path, payload })
 }
 
-/// Every pair of host kinds with each sort of path: whole, one byte short, one byte more, and every factor round it.
+/// A packet read and, where it is accepted, the headers of a reply: new ones of its ends exchanged, with the paddings that
+/// were read.
+fn read_and_reply(checker: &mut Checker, bytes: &[u8]) {
+    let packet = checker.read_packet(bytes);
+    if packet.answer != ACCEPTED {
+        return;
+    }
+    let ends = Ends {
+        destination_ia: packet.source_ia,
+        destination: packet.source,
+        source_ia: packet.destination_ia,
+        source: packet.destination,
+    };
+    let path = Input { path_type: packet.path_type, bytes: packet.path_part.of(bytes) };
+    let headers = checker.new_headers(&ends, path, packet.next_header, 4, packet.flow_id);
+    checker.write_new_headers(&ends, &headers, path.bytes, packet.payload_part.start);
+}
+
+/// Every pair of host kinds with each sort of path: whole and replied to, one byte short, one byte more, and every factor
+/// round it.
 pub fn every_kind(checker: &mut Checker, random: &mut Random) {
     for kinds in 0..=255 {
         for path_type in [0, 1, 2] {
             let mut bytes = small(random, kinds, path_type, 2);
-            checker.read_packet(&bytes);
+            read_and_reply(checker, &bytes);
             checker.read_packet(&bytes[..bytes.len() - 1]);
             let factor = bytes[5];
             for other in factor.saturating_sub(3)..=factor + 2 {
@@ -55,9 +77,25 @@ pub fn every_type_and_factor(checker: &mut Checker, random: &mut Random) {
     }
 }
 
+/// Every byte of the padding of a service: as both ends, and as one beside a host that has none.
+pub fn every_padding(checker: &mut Checker, random: &mut Random) {
+    for byte in 0..=255 {
+        for (kinds, path_type) in [(0x44, 0), (0x44, 1), (0x40, 2), (0x04, 1)] {
+            for padding in [[byte, 0], [0, byte], [byte, !byte]] {
+                let mut bytes = small(random, kinds, path_type, 1);
+                let [high, low] = padding;
+                bytes[30..32].copy_from_slice(&[high, low]);
+                bytes[34..36].copy_from_slice(&[low, high]);
+                read_and_reply(checker, &bytes);
+            }
+        }
+    }
+}
+
 /// Packets cut at every byte, and with every payload length beside the one that fits.
 pub fn every_cut(checker: &mut Checker, random: &mut Random) {
-    for (kinds, path_type) in [(0x00, 0), (0x00, 1), (0x34, 1), (0x43, 2), (0xff, 1), (0x04, 0), (0x51, 255)] {
+    for (kinds, path_type) in [(0x00, 0), (0x00, 1), (0x34, 1), (0x43, 2), (0xff, 1), (0x04, 0), (0x44, 1), (0x51, 255)]
+    {
         let mut bytes = small(random, kinds, path_type, 5);
         bytes.extend([1, 2, 3]);
         for length in 0..=bytes.len() {
@@ -92,10 +130,10 @@ pub fn largest(checker: &mut Checker, random: &mut Random) {
     }
 }
 
-/// A random packet: good, or damaged, at times cut at every byte.
+/// A random packet: good and replied to, or damaged, at times cut at every byte.
 pub fn random_packet(checker: &mut Checker, random: &mut Random) {
     let mut bytes = shapes::packet(random);
-    checker.read_packet(&bytes);
+    read_and_reply(checker, &bytes);
     if random.once_in(500) {
         for length in 0..bytes.len() {
             checker.read_packet(&bytes[..length]);

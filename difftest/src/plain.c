@@ -170,6 +170,7 @@ static ScionHost read_host(uint8_t kind, const uint8_t *at) {
     ScionHost host = {.kind = kind};
     if (kind == SCION_HOST_SERVICE) {
         host.service = get16(at);
+        host.padding = get16(at + 2);
     } else {
         memcpy(host.bytes, at, host_length(kind));
     }
@@ -232,7 +233,7 @@ ScionPacket plain_read_packet(const uint8_t *bytes, size_t len) {
     };
 }
 
-/* Writes a host; where it ends. */
+/* Writes a host of new headers, a service with zero padding; where it ends. */
 static uint8_t *put_host(uint8_t *at, const ScionHost *host) {
     if (host->kind == SCION_HOST_SERVICE) {
         put32(at, (uint32_t)host->service << 16);

@@ -206,6 +206,7 @@ pub fn held(plant: Option<Plant>) -> Held {
         held.path(random.pick(&[0, 2, 7, 255]), &path);
         let (kinds, flow) = (random.next() as u8, random.pick(&[0, 1, 0xf_ffff, 0x10_0000]));
         let mut ends = shapes::ends(&mut random, kinds >> 4, kinds & 15);
+        shapes::pad(&mut random, &mut ends);
         if random.once_in(16) {
             ends.source.kind += 16;
         }

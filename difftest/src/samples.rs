@@ -1,7 +1,8 @@
 //! Answers worked out by hand for packets, header writing, the times of records (request 2026-01), interfaces where
-//! peering is set (request 2026-03), and copies and turns into destinations of any size (request 2026-08), held against
-//! the Rust, or the model where the Rust lacks the call or is excepted, and the library. Others for paths are the
-//! stored answers of the program that executes calls, which `replay` holds against the Rust.
+//! peering is set (request 2026-03), the padding of services (request 2026-05), and copies and turns into destinations of
+//! any size (request 2026-08), held against the Rust, or the model where the Rust lacks the call or is excepted, and the
+//! library. Others for paths are the stored answers of the program that executes calls, which `replay` holds against the
+//! Rust.
 
 use scion_proto::{Answer, Ends, Headers, Host, Interface, Packet, Part, Path, WrittenPath};
 
@@ -164,10 +165,10 @@ fn hosts(checker: &mut Checker, rows: &mut Rows) {
             rows.hold("P-11", packet.answer.number, 1);
         }
     }
-    for padding in [0, 0xbe] {
-        let edits = [(9, 0x40), (28, 0), (29, 2), (30, padding), (31, padding)];
+    for (high, low, padding) in [(0, 0, 0), (0xbe, 0xef, 0xbeef)] {
+        let edits = [(9, 0x40), (28, 0), (29, 2), (30, high), (31, low)];
         let host = read(checker, &k36(&edits, 36)).destination;
-        rows.hold("P-13", host, Host { kind: 4, service: 2, bytes: [0; 16] });
+        rows.hold("P-13", host, service(2, padding));
     }
     let host = read(checker, &k36(&[(9, 0x10), (5, 10)], 40)).destination;
     rows.hold("P-14", host.bytes[8..].to_vec(), vec![0; 8]);
@@ -175,6 +176,11 @@ fn hosts(checker: &mut Checker, rows: &mut Rows) {
     let parts = shapes::PacketParts { kinds: 0x01, path_type: 1, path, payload: 0 };
     let packet = read(checker, &shapes::packet_of(&mut Random::new(2), &parts));
     rows.hold("P-22", (packet.answer.number, packet.header_length_factor, packet.path_part.len), (0, 255, 980));
+}
+
+/// A service of a number and a padding.
+fn service(number: u16, padding: u16) -> Host {
+    Host { kind: 4, service: number, padding, ..Host::default() }
 }
 
 /// `K36`'s ends.
@@ -226,9 +232,9 @@ fn bytes_written(checker: &mut Checker, rows: &mut Rows) {
     let packet = read(checker, &bytes);
     rows.hold("W-19", (packet.header_length_factor, packet.path_part.len), (9, 0));
     let mut headers = made;
-    headers.destination = Host { kind: 4, service: 2, bytes: [0; 16] };
+    headers.destination = service(2, 0);
     rows.hold("W-06", written(checker, &headers, &[], 36).1[28..32].to_vec(), vec![0, 2, 0, 0]);
-    headers.destination = Host { kind: 5, service: 0, bytes: [7; 16] };
+    headers.destination = Host { kind: 5, bytes: [7; 16], ..Host::default() };
     rows.hold("W-07", written(checker, &headers, &[], 40).1[28..36].to_vec(), vec![7; 8]);
 }
 
@@ -405,6 +411,64 @@ fn fronts(checker: &mut Checker, rows: &mut Rows) {
     }
 }
 
+/// `K36` with these kinds and these bytes of hosts from a place on.
+fn with_hosts(kinds: u8, place: usize, hosts: &str) -> Vec<u8> {
+    let mut bytes = k36(&[(9, kinds)], 36);
+    let hosts = parse_bytes(hosts);
+    bytes[place..place + hosts.len()].copy_from_slice(&hosts);
+    bytes
+}
+
+/// Rows on the paddings of services: read, written, and zero in new headers.
+fn paddings(checker: &mut Checker, rows: &mut Rows) {
+    let plain = ends();
+    let (to, from) = (with_hosts(0x40, 28, "0002beef"), with_hosts(0x04, 32, "80020001"));
+    let packet = read(checker, &to);
+    rows.hold("05-1", (packet.destination, packet.source), (service(2, 0xbeef), plain.source));
+    let packet = read(checker, &from);
+    rows.hold("05-1", (packet.destination, packet.source), (plain.destination, service(0x8002, 1)));
+    rows.hold("05-1", read(checker, &to[..35]), Packet::refused(refusal(1)));
+    let mut headers = make(checker, 0, &[], 0);
+    headers.destination = service(2, 0xbeef);
+    rows.hold("05-2", written(checker, &headers, &[], 36), (0, to));
+    headers.destination = Host { padding: 0xffff, ..plain.destination };
+    let (_, bytes) = written(checker, &headers, &[], 36);
+    rows.hold("05-2", bytes.clone(), parse_bytes(K36));
+    rows.hold("05-2", read(checker, &bytes).destination, plain.destination);
+    for padding in [0, 0xbeef] {
+        let ends = Ends { destination: service(2, padding), source: Host { padding: 0xffff, ..plain.source }, ..plain };
+        let made = checker.new_headers(&ends, Input { path_type: 0, bytes: &[] }, 0x11, 0, 1);
+        rows.hold("05-2", (made.destination, made.source), (service(2, 0), plain.source));
+        checker.write_new_headers(&ends, &made, &[], 36);
+        let mut dst = vec![0xee; 36];
+        write::write_new_headers(&ends, &made, &[], &mut dst);
+        rows.hold("05-2", dst, with_hosts(0x40, 28, "00020000"));
+    }
+    written_again(checker, rows);
+}
+
+/// Rows on packets that are written again as they were read: any values, services, opaque hosts and paths, short headers.
+fn written_again(checker: &mut Checker, rows: &mut Rows) {
+    let values = [(0, 0x0a), (1, 0xbf), (2, 0xff), (3, 0xfe), (4, 0x99), (10, 0xab), (11, 0xcd)];
+    for (bytes, length) in [
+        (k36(&values, 36), 36),
+        (with_hosts(0x40, 28, "0002beef"), 36),
+        (with_hosts(0x04, 32, "80020001"), 36),
+        (with_hosts(0x44, 28, "0002beef80020001"), 36),
+        (k36(&[(9, 0x51), (5, 11), (7, 2)], 47), 44),
+        (k36(&[(9, 0x40), (5, 10)], 36), 36),
+        (k36(&[(9, 0x04), (5, 255)], 36), 36),
+        (with_path(1, M1, 18, 4, 76), 72),
+        (with_path(1, M1, 19, 0, 72), 72),
+        (with_path(2, "010203040506", 11, 0, 42), 42),
+        (with_path(255, "01020304", 10, 3, 44), 40),
+    ] {
+        let packet = read(checker, &bytes);
+        let again = written(checker, &packet.headers(), packet.path_part.of(&bytes), length);
+        rows.hold("05-4", (packet.payload_part.start, again), (length, (0, bytes[..length].to_vec())));
+    }
+}
+
 /// Holds every row; whether the Rust, or the model, gives them all.
 pub fn run(checker: &mut Checker) -> bool {
     let mut rows = Rows::default();
@@ -416,6 +480,7 @@ pub fn run(checker: &mut Checker) -> bool {
     times(checker, &mut rows);
     interfaces(checker, &mut rows);
     fronts(checker, &mut rows);
+    paddings(checker, &mut rows);
     println!("  worked answers: {} held, {} that the Rust or the model does not give", rows.held, rows.missed);
     rows.missed == 0
 }

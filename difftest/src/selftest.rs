@@ -1,6 +1,6 @@
 //! The harness made to fail: every byte of every answer, lent bytes and their guards, and the ends of paths that are
-//! written are made wrong in turn, and plausible wrong rules of moving, of interfaces, of times and of arrivals are put
-//! in the right one's place. Each has to be reported.
+//! written are made wrong in turn, and plausible wrong rules of moving, of interfaces, of times, of arrivals and of padding
+//! are put in the right one's place. Each has to be reported.
 
 use std::mem::offset_of;
 
@@ -146,9 +146,19 @@ fn shape_run(checker: &mut Checker) {
     paths::every_shape(checker, &mut Random::new(7), 3);
 }
 
+/// Packets of every kind read, written again and replied to.
+fn packet_run(checker: &mut Checker) {
+    packets::every_kind(checker, &mut Random::new(8));
+}
+
+/// Headers of every kind made and written.
+fn header_run(checker: &mut Checker) {
+    writing::every_kind(checker, &mut Random::new(9));
+}
+
 /// The runs that have to tell a wrong rule from the right one. Event lists begin with paths that moves admit, so that
 /// rules of refusal are not theirs to find; all of such a path lies ahead; and they ask no path for its interfaces and
-/// no record for its time left.
+/// no record for its time left. No packet has a padding in a host that is no service.
 fn runs_of(twist: Twist) -> &'static [fn(&mut Checker)] {
     match twist {
         Twist::SixtyFiveAreNotTooMany
@@ -170,11 +180,20 @@ fn runs_of(twist: Twist) -> &'static [fn(&mut Checker)] {
         | Twist::NoExpiryIsRefused
         | Twist::NothingIsLeftOnceItHasExpired => &[records::borders],
         Twist::EndHoldsTheWholeDestination => &[event_run],
+        Twist::PaddingIsDropped
+        | Twist::PaddingOfTheOtherHostIsRead
+        | Twist::PaddingOfAnyHostIsRead
+        | Twist::PaddingIsReadTurned => &[packet_run],
+        Twist::PaddingOfAnyHostIsWritten => &[header_run],
+        Twist::PaddingIsWrittenAsZero
+        | Twist::PaddingOfTheOtherHostIsWritten
+        | Twist::PaddingIsWrittenTurned
+        | Twist::NewHeadersKeepThePadding => &[packet_run, header_run],
         _ => &[shape_run, event_run],
     }
 }
 
-/// How many wrong rules go unseen, by calls, by event lists or by records made by hand.
+/// How many wrong rules go unseen, by calls, by event lists, by packets and headers or by records made by hand.
 fn missed_twists() -> usize {
     let mut missed = 0;
     for twist in TWISTS {
@@ -234,7 +253,7 @@ fn stored_faults() -> (usize, usize) {
 /// Plants every fault; whether all were reported, and none where none was planted.
 pub fn run() -> bool {
     let mut clean = Checker::default();
-    for run in [short_run, shape_run, event_run, records::borders] {
+    for run in [short_run, shape_run, event_run, packet_run, header_run, records::borders] {
         run(&mut clean);
     }
     println!("without a fault: {}", clean.tally.summary());
@@ -251,7 +270,10 @@ pub fn run() -> bool {
         missed += report(plant, is_reported(plant, event_run), "event lists");
     }
     let twists = missed_twists();
-    println!("{} wrong rules of moving, of interfaces, of times and of arrivals, {twists} missed", TWISTS.len());
+    println!(
+        "{} wrong rules of moving, of interfaces, of times, of arrivals and of padding, {twists} missed",
+        TWISTS.len()
+    );
     let (stored, stored_missed) = stored_faults();
     println!("planted {stored} faults in stored answers, {stored_missed} missed");
     let (plain, plain_missed) = plain_faults();

@@ -166,15 +166,32 @@ pub fn damage(random: &mut Random, bytes: &mut Vec<u8>, head: usize) {
     }
 }
 
+/// Bits for a padding that take nothing of the numbers to come: whatever else is random stays as it is.
+fn padding_bits(random: &Random) -> u64 {
+    Random::new(random.clone().next()).next()
+}
+
+/// A padding by bits: zero half of the time, else often at a border.
+fn padding(bits: u64) -> u16 {
+    match bits >> 60 {
+        0..8 => 0,
+        8 => 1,
+        9 => 0xff,
+        10 => 0x100,
+        11 => u16::MAX,
+        _ => (bits >> 32) as u16,
+    }
+}
+
 /// A host of a kind, its bytes beyond the length zero, as reading leaves it.
 pub fn host(random: &mut Random, kind: u8) -> Host {
     let mut host = Host { kind, ..Host::default() };
     if kind == 4 {
         host.service = random.pick(&[0, 1, 2, 0x10, 0x8002, 0xffff, random.clone().next() as u16]);
+        host.padding = padding(padding_bits(random));
         return host;
     }
-    let length = 4 * (usize::from(kind % 4) + 1);
-    random.fill(&mut host.bytes[..length]);
+    random.fill(&mut host.bytes[..host_length(kind)]);
     host
 }
 
@@ -186,6 +203,12 @@ pub fn ends(random: &mut Random, destination: u8, source: u8) -> Ends {
         source_ia: random.next(),
         source: host(random, source),
     }
+}
+
+/// Gives both ends any padding, as a caller may: that of a host that is no service must not be looked at.
+pub fn pad(random: &mut Random, ends: &mut Ends) {
+    ends.destination.padding = padding(random.next());
+    ends.source.padding = padding(random.next());
 }
 
 /// A path type: standard half the time, else empty or any.
@@ -215,9 +238,14 @@ pub fn typed_path(random: &mut Random, path_type: u8) -> Vec<u8> {
     }
 }
 
+/// How long a host of a kind is.
+pub fn host_length(kind: u8) -> usize {
+    4 * (usize::from(kind % 4) + 1)
+}
+
 /// How long the two hosts and the network numbers are.
 fn address_length(kinds: u8) -> usize {
-    16 + 4 * (usize::from(kinds >> 4 & 3) + 1) + 4 * (usize::from(kinds & 3) + 1)
+    16 + host_length(kinds >> 4) + host_length(kinds & 15)
 }
 
 /// What a packet is made of.
@@ -228,10 +256,18 @@ pub struct PacketParts {
     pub payload: usize,
 }
 
-/// A packet of these parts, its other fields random, its header length as it should be where it can be.
+/// A packet of these parts, its other fields random, its header length as it should be where it can be; a service's padding
+/// is zero half of the time.
 pub fn packet_of(random: &mut Random, parts: &PacketParts) -> Vec<u8> {
     let header = 12 + address_length(parts.kinds) + parts.path.len();
     let mut bytes = random.bytes(12 + address_length(parts.kinds));
+    let (destination, source) = (parts.kinds >> 4, parts.kinds & 15);
+    let bits = padding_bits(random);
+    for (kind, at, bits) in [(destination, 28, bits), (source, 28 + host_length(destination), bits.rotate_left(32))] {
+        if kind == 4 {
+            bytes[at + 2..at + 4].copy_from_slice(&padding(bits).to_be_bytes());
+        }
+    }
     bytes[0] &= 0x0f;
     bytes[5] = (header / 4).min(255) as u8;
     bytes[6..8].copy_from_slice(&(parts.payload as u16).to_be_bytes());
@@ -243,11 +279,16 @@ pub fn packet_of(random: &mut Random, parts: &PacketParts) -> Vec<u8> {
     bytes
 }
 
+/// Two host kinds: of hosts that have names half of the time, else any.
+pub fn kinds(random: &mut Random) -> u8 {
+    if random.flip() { random.pick(&[0x00, 0x33, 0x44, 0x03, 0x40, 0x34]) } else { random.next() as u8 }
+}
+
 /// Any packet that is read, or nearly.
 pub fn packet(random: &mut Random) -> Vec<u8> {
     let path_type = path_type(random);
     let parts = PacketParts {
-        kinds: random.next() as u8,
+        kinds: kinds(random),
         path_type,
         path: typed_path(random, path_type),
         payload: random.pick(&[0, 0, 1, 2, 8, 64, random.clone().below(300)]),
@@ -278,6 +319,11 @@ pub fn headers(random: &mut Random, made: &Headers) -> Headers {
     headers.version = random.pick(&[0, 0, 1, 15]);
     headers.traffic_class = random.next() as u8;
     headers.reserved = random.next() as u16;
+    for host in [&mut headers.destination, &mut headers.source] {
+        if host.kind == 4 {
+            host.padding = padding(random.next());
+        }
+    }
     match random.below(16) {
         0 => headers.version = random.pick(&[16, 17, 255]),
         1 => headers.flow_id = random.pick(&[1 << 20, u32::MAX, random.clone().next() as u32 | 1 << 20]),
@@ -300,6 +346,6 @@ fn litter(random: &mut Random, host: &mut Host) {
         return;
     }
     host.service = random.next() as u16;
-    let length = 4 * (usize::from(host.kind % 4) + 1);
-    random.fill(&mut host.bytes[length..]);
+    host.padding = random.next() as u16;
+    random.fill(&mut host.bytes[host_length(host.kind)..]);
 }

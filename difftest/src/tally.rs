@@ -87,10 +87,11 @@ pub enum Exception {
     UnreadStandardPathWritten,
     LongerEncoderDestination,
     ContradictoryHeaders,
+    ServicePadding,
 }
 
 /// Each exception with its reason.
-pub const EXCEPTIONS: [(Exception, &str); 7] = [
+pub const EXCEPTIONS: [(Exception, &str); 8] = [
     (
         Exception::PanickingSize,
         "the Rust was seen to panic at this size; 01: 9, or 1 for a number cut short; 2026-08: a longer copy's front",
@@ -115,6 +116,10 @@ pub const EXCEPTIONS: [(Exception, &str); 7] = [
     (
         Exception::ContradictoryHeaders,
         "a factor that the lengths don't give; the Rust writes it as it stands, and is compared",
+    ),
+    (
+        Exception::ServicePadding,
+        "a service's padding that is not zero, where the Rust writes zero; 2026-05: written as it is given",
     ),
 ];
 

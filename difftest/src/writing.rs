@@ -6,9 +6,11 @@ use crate::check::{Checker, Input};
 use crate::random::Random;
 use crate::shapes::{self, Pointers};
 
-/// Headers made for a path, and written: into the exact size, and sizes beside it.
+/// Headers made for a path, of ends with any padding, and written: as they are made and with the paddings that were given,
+/// into the exact size, and sizes beside it.
 fn make_and_write(checker: &mut Checker, random: &mut Random, kinds: u8, input: Input, payload: usize) -> Headers {
-    let ends = shapes::ends(random, kinds >> 4, kinds & 15);
+    let mut ends = shapes::ends(random, kinds >> 4, kinds & 15);
+    shapes::pad(random, &mut ends);
     let next_header = random.next() as u8;
     let flow_id = random.pick(&[0, 1, 0xf_ffff, random.clone().next() as u32 & 0xf_ffff]);
     let headers = checker.new_headers(&ends, input, next_header, payload, flow_id);
@@ -16,6 +18,10 @@ fn make_and_write(checker: &mut Checker, random: &mut Random, kinds: u8, input: 
     let exact = checker.headers_length(&headers, input.bytes);
     for size in [exact, exact - 1, exact + 1] {
         checker.write_new_headers(&ends, &headers, input.bytes, size);
+    }
+    let padded = Headers { destination: ends.destination, source: ends.source, ..headers };
+    for size in [exact, exact - 1] {
+        checker.write_headers(&padded, input.bytes, size);
     }
     headers
 }
@@ -58,10 +64,13 @@ pub fn every_length(checker: &mut Checker, random: &mut Random) {
     }
 }
 
-/// Every factor that a caller may give, every version and kind byte, and flows and payloads at their borders.
+/// Every factor that a caller may give, every version and kind byte, every byte of a padding, and flows and payloads at
+/// their borders.
 pub fn every_value(checker: &mut Checker, random: &mut Random) {
     let path = shapes::path_of(random, [1, 1, 0], Pointers::Start);
-    let made = make_and_write(checker, random, 0x34, Input { path_type: 1, bytes: &path }, 9);
+    let input = Input { path_type: 1, bytes: &path };
+    let made = make_and_write(checker, random, 0x34, input, 9);
+    let services = make_and_write(checker, random, 0x44, input, 9);
     for factor in (0..=300).chain([511, 512, 65_535, 65_536, 1 << 32, usize::MAX]) {
         write_sizes(checker, &Headers { header_length_factor: factor, ..made }, &path);
     }
@@ -75,6 +84,10 @@ pub fn every_value(checker: &mut Checker, random: &mut Random) {
         headers.source = shapes::host(random, byte & 15);
         headers.source.kind = byte;
         write_sizes(checker, &headers, &path);
+        for padding in [byte.into(), u16::from(byte) << 8] {
+            write_sizes(checker, &with_paddings(&made, padding, 0), &path);
+            write_sizes(checker, &with_paddings(&services, padding, !padding), &path);
+        }
     }
     for flow_id in [0, 1, 0xf_fffe, 0xf_ffff, 0x10_0000, 0x10_0001, u32::MAX] {
         write_sizes(checker, &Headers { flow_id, ..made }, &path);
@@ -87,13 +100,29 @@ pub fn every_value(checker: &mut Checker, random: &mut Random) {
     }
 }
 
-/// Every set of the five faults at once: flow, factor 0, factor 256, payload, destination.
+/// Every set of the five faults at once, with and without paddings: flow, factor 0, factor 256, payload, destination.
 pub fn every_fault(checker: &mut Checker, random: &mut Random) {
     let path = random.bytes(12);
-    let made = make_and_write(checker, random, 0, Input { path_type: 2, bytes: &path }, 0);
-    let exact = checker.headers_length(&made, &path);
+    for kinds in [0x00, 0x44] {
+        let made = make_and_write(checker, random, kinds, Input { path_type: 2, bytes: &path }, 0);
+        faulty(checker, &made, &path);
+        faulty(checker, &with_paddings(&made, 0xbeef, 1), &path);
+    }
+}
+
+/// Headers with these paddings, the destination's first.
+fn with_paddings(made: &Headers, destination: u16, source: u16) -> Headers {
+    let mut headers = *made;
+    headers.destination.padding = destination;
+    headers.source.padding = source;
+    headers
+}
+
+/// Headers written with every set of the five faults.
+fn faulty(checker: &mut Checker, made: &Headers, path: &[u8]) {
+    let exact = checker.headers_length(made, path);
     for faults in 0..32 {
-        let mut headers = made;
+        let mut headers = *made;
         if faults & 1 != 0 {
             headers.flow_id = 1 << 20;
         }
@@ -106,7 +135,7 @@ pub fn every_fault(checker: &mut Checker, random: &mut Random) {
         if faults & 8 != 0 {
             headers.payload_length = 65_536;
         }
-        checker.write_headers(&headers, &path, if faults & 16 != 0 { exact - 1 } else { exact });
+        checker.write_headers(&headers, path, if faults & 16 != 0 { exact - 1 } else { exact });
     }
 }
 
@@ -123,7 +152,7 @@ pub fn random_headers(checker: &mut Checker, random: &mut Random) {
         _ => {}
     }
     let payload = random.pick(&[0, 1, 1000, 65_535, 65_536, random.clone().below(65_536)]);
-    let kinds = if random.flip() { random.pick(&[0x00, 0x33, 0x44, 0x03, 0x40]) } else { random.next() as u8 };
+    let kinds = shapes::kinds(random);
     let made = make_and_write(checker, random, kinds, Input { path_type, bytes: &path }, payload);
     for _ in 0..3 {
         let headers = shapes::headers(random, &made);

@@ -126,7 +126,8 @@ fn change(number: usize, line: &[u8], bytes: &mut [u8], index: usize) {
 fn answer_write(line: &[u8]) {
     let number = words::call_of(
         line,
-        b"copy bss turn bss encode bbbbbbs putaddress nnbhsbhss newaddr nnbhsbhss putcommon bbwbbhbbbhs new bnwbnnbhsbhsss write bbwbnnbhnnbhsbhsss recordcopy bss recordturn bss",
+        b"copy bss turn bss encode bbbbbbs putaddress nnbhshbhshs newaddr nnbhsbhss putcommon bbwbbhbbbhs \
+          new bnwbnnbhshbhshss write bbwbnnbhnnbhshbhshss recordcopy bss recordturn bss",
     );
     if number == 0 {
         answer_read(line);
@@ -148,10 +149,10 @@ fn last_word(number: usize) -> usize
 {
     match number {
         3 => 7,
-        4 | 5 => 9,
-        6 => 11,
-        7 => 14,
-        8 => 18,
+        4 | 6 => 11,
+        5 => 9,
+        7 => 16,
+        8 => 20,
         _ => 3,
     }
 }
@@ -165,7 +166,7 @@ fn write(number: usize, line: &[u8], bytes: &[u8], dst: &mut [u8]) {
         // `turn T B D`: the path reversed into a destination that holds D.
         2 => travel::written(reverse_to_slice(path, bytes, dst)),
         3 => meta_headers::encode(line, dst),
-        // `putaddress`, the eight words of an address header, and D: an address header written alone.
+        // `putaddress`, the ten words of an address header, and D: an address header written alone.
         4 => packets::encoded(packets::address_at(line, 1).encode_to(dst)),
         5 => packets::new_address(line, dst),
         6 => packets::put_common(line, dst),

@@ -1,4 +1,5 @@
-// Calls on packets and on their headers. A host is three words: its kind, a service's number, and its bytes.
+// Calls on packets and on their headers. A host is four words: its kind, a service's number, its bytes, and a service's padding; that
+// of an address, which has no padding, is the first three.
 use crate::meta_headers;
 use crate::print;
 use crate::words;
@@ -47,7 +48,7 @@ fn service_number(host: HostAddr) -> u16 {
     }
 }
 
-// A host's kind, a service's number and the sixteen bytes.
+// A host's kind, a service's number, the sixteen bytes and the padding.
 fn host(address: HostAddress) {
     let host = address.host;
     let bytes = address.bytes;
@@ -57,6 +58,7 @@ fn host(address: HostAddress) {
         MaybeEncoded::Encoded(_) => print::number(0),
     }
     print::bytes(&bytes);
+    print::number(address.padding as u64);
 }
 
 // The networks and the hosts, each destination first.
@@ -138,22 +140,27 @@ fn host_of(kind: u8, service: u16) -> MaybeEncoded {
     }
 }
 
-// The host of the three words from word `k` on.
+// The host of the four words from word `k` on.
 fn host_at(line: &[u8], k: usize) -> HostAddress
     requires { ⌜ k < 100 ⌝ }
 {
     let mut bytes = [0u8; 16];
     words::bytes_at(line, k + 2, &mut bytes);
     let host = host_of(words::u8_at(line, k), words::u16_at(line, k + 1));
-    HostAddress { host, bytes }
+    let padding = words::u16_at(line, k + 3);
+    HostAddress {
+        host,
+        bytes,
+        padding,
+    }
 }
 
-// The address header of the eight words from word `k` on: both networks, then both hosts.
+// The address header of the ten words from word `k` on: both networks, then both hosts.
 pub fn address_at(line: &[u8], k: usize) -> AddressHeader
     requires { ⌜ k < 50 ⌝ }
 {
     let destination = host_at(line, k + 2);
-    let source = host_at(line, k + 5);
+    let source = host_at(line, k + 6);
     AddressHeader {
         destination_ia: IsdAsn(words::u64_at(line, k)),
         source_ia: IsdAsn(words::u64_at(line, k + 1)),
@@ -193,8 +200,8 @@ pub fn endhost(line: &[u8]) {
     scion_address(moved.set_host(host, bytes));
 }
 
-// `newaddr`, the eight words of an address header whose hosts have names, and D: the length of the header made of two addresses,
-// and the header written to D.
+// `newaddr`, two networks, the three words of each of two hosts that have names, and D: the length of the header made of the two
+// addresses, and the header written to D.
 pub fn new_address(line: &[u8], dst: &mut [u8]) {
     let destination = scion_address_at(line, words::u64_at(line, 1), 3);
     let source = scion_address_at(line, words::u64_at(line, 2), 6);
@@ -203,7 +210,7 @@ pub fn new_address(line: &[u8], dst: &mut [u8]) {
     encoded(header.encode_to(dst));
 }
 
-// `write version class flow next factor payload type reserved` and the eight words of an address header, then `P D`: the headers and
+// `write version class flow next factor payload type reserved` and the ten words of an address header, then `P D`: the headers and
 // the path P written to a destination that holds D, after the length that they ask for.
 pub fn write(line: &[u8], path: &[u8], dst: &mut [u8]) {
     let address = address_at(line, 9);
@@ -222,7 +229,7 @@ pub fn write(line: &[u8], path: &[u8], dst: &mut [u8]) {
     encoded(headers.encode_to(path, dst));
 }
 
-// `new next payload flow type` and the eight words of an address header, then `P D`: the factor of headers made for the path P, and the
+// `new next payload flow type` and the ten words of an address header, then `P D`: the factor of headers made for the path P, and the
 // headers and the path written to a destination that holds D.
 pub fn new(line: &[u8], path: &[u8], dst: &mut [u8]) {
     let headers = ScionHeaders::new(

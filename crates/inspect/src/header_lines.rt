@@ -64,8 +64,8 @@ fn ipv4(bytes: [u8; 16]) {
     text::number(bytes[3] as u64);
 }
 
-// A host that has a name.
-fn named(host: HostAddr, bytes: [u8; 16]) {
+// A host that has a name; a service has its number and its padding.
+fn named(host: HostAddr, bytes: [u8; 16], padding: u16) {
     match host {
         HostAddr::V4 => ipv4(bytes),
         HostAddr::V6 => {
@@ -75,6 +75,8 @@ fn named(host: HostAddr, bytes: [u8; 16]) {
         HostAddr::Svc(service) => {
             text::text(b"service ");
             text::hex_16(service.0);
+            text::text(b" padding ");
+            text::hex_16(padding);
         }
     }
 }
@@ -92,7 +94,7 @@ fn host(title: &[u8], address: HostAddress) {
     let bytes = address.bytes;
     text::name(title);
     match host {
-        MaybeEncoded::Decoded(decoded) => named(decoded, bytes),
+        MaybeEncoded::Decoded(decoded) => named(decoded, bytes, address.padding),
         MaybeEncoded::Encoded(_) => opaque(address),
     }
     text::end();

@@ -27,7 +27,8 @@ use Rattle.packet_address_header.specs.declared.HostAddress.{HostAddress
 use Rattle.packet_address_header.specs.declared.AddressHeader.{AddressHeader}
 use Rattle.packet_address_header.specs.declared.WireHost.{WireHost}
 use Rattle.packet_address_header.specs.declared.WireAddress.{WireAddress}
-use Rattle.packet_address_header.specs.AddressHeader.{kindOf, hostOfKind, padded, hostAt, lengthOfKinds, addressLength, addressAt, readAddress}
+use Rattle.packet_address_header.specs.AddressHeader.{kindOf, hostOfKind, padded, hostAt, withPadding, withoutPadding}
+use Rattle.packet_address_header.specs.AddressHeader.{lengthOfKinds, addressLength, addressAt, readAddress}
 use Rattle.packet_address_header.specs.AddressHeader.{hostBytesOf, hostBytes, addressBytes, writeAddress, serviceBytes, rawOf, hostOnWire}
 use Rattle.packet_address_header.specs.AddressHeader.{onWire, wireLength, wireHostBytes, wireBytes}
 
@@ -58,24 +59,24 @@ kind-read kind bytes at = go (eqb kind 4) refl
     go true e = rw e (sym (eqb-true kind 4 e))
     go false e = rw e (kind-of-kind kind)
 
-pub length-rawOf : (h : MaybeEncoded) (bytes : List ℕ) → length bytes ≡ 16 → length (rawOf h bytes) ≡ 16
+pub length-rawOf : (h : MaybeEncoded) (bytes : List ℕ) (padding : ℕ) → length bytes ≡ 16 → length (rawOf h bytes padding) ≡ 16
 unfolding rawOf serviceBytes
-length-rawOf (Decoded V4) bytes e = e
-length-rawOf (Decoded V6) bytes e = e
-length-rawOf (Decoded (Svc service)) bytes e = length-sets (replicate 16 0) 0 (bytesOf 2 (service .0))
-length-rawOf (Encoded kind) bytes e = e
+length-rawOf (Decoded V4) bytes padding e = e
+length-rawOf (Decoded V6) bytes padding e = e
+length-rawOf (Decoded (Svc service)) bytes padding e = length-sets (replicate 16 0) 0 (bytesOf 2 (service .0) ++ bytesOf 2 padding)
+length-rawOf (Encoded kind) bytes padding e = e
 
 -- its bytes on the wire are the host's own
-wire-host : (h : MaybeEncoded) (bytes : List ℕ) → take (hostLength (kindOf h)) (rawOf h bytes) ≡ hostBytesOf h bytes
+wire-host : (h : MaybeEncoded) (bytes : List ℕ) (padding : ℕ) → take (hostLength (kindOf h)) (rawOf h bytes padding) ≡ hostBytesOf h bytes padding
 unfolding kindOf rawOf serviceBytes hostBytesOf hostLength bytesOf
-wire-host (Decoded V4) bytes = refl
-wire-host (Decoded V6) bytes = refl
-wire-host (Decoded (Svc service)) bytes = refl
-wire-host (Encoded kind) bytes = refl
+wire-host (Decoded V4) bytes padding = refl
+wire-host (Decoded V6) bytes padding = refl
+wire-host (Decoded (Svc service)) bytes padding = refl
+wire-host (Encoded kind) bytes padding = refl
 
 pub host-on-wire : (a : HostAddress) → wireHostBytes (hostOnWire a) ≡ hostBytes a
 unfolding wireHostBytes hostOnWire hostBytes
-host-on-wire a = wire-host (a .host) (a .bytes)
+host-on-wire a = wire-host (a .host) (a .bytes) (a .padding)
 
 pub length-wireHostBytes : (w : WireHost) → length (w .bytes) ≡ 16 → length (wireHostBytes w) ≡ hostLength (w .kind)
 unfolding wireHostBytes
@@ -83,7 +84,12 @@ length-wireHostBytes w e = simp length-take (omega (arith, host-few (w .kind), e
 
 pub length-hostBytes : (a : HostAddress) → length (a .bytes) ≡ 16 → length (hostBytes a) ≡ hostLength (kindOf (a .host))
 unfolding hostOnWire
-length-hostBytes a e = ap length (sym (host-on-wire a)) ∙ length-wireHostBytes (hostOnWire a) (length-rawOf (a .host) (a .bytes) e)
+length-hostBytes a e = ap length (sym (host-on-wire a)) ∙ length-wireHostBytes (hostOnWire a) (length-rawOf (a .host) (a .bytes) (a .padding) e)
+
+-- a padding has no part in the length
+pub length-without-padding : (a : AddressHeader) → addressLength (withoutPadding a) ≡ addressLength a
+unfolding addressLength withoutPadding withPadding
+length-without-padding a = refl
 
 -- READING
 
@@ -145,8 +151,8 @@ pub record Sixteen (a : AddressHeader) : Type 0 where
 sixteen-on-wire : (a : AddressHeader) → Sixteen a → WireSixteen (onWire a)
 unfolding onWire hostOnWire
 sixteen-on-wire a s = record {
-  destination-sixteen = length-rawOf (a .destination .host) (a .destination .bytes) (s .destination-sixteen);
-  source-sixteen = length-rawOf (a .source .host) (a .source .bytes) (s .source-sixteen);
+  destination-sixteen = length-rawOf (a .destination .host) (a .destination .bytes) (a .destination .padding) (s .destination-sixteen);
+  source-sixteen = length-rawOf (a .source .host) (a .source .bytes) (a .source .padding) (s .source-sixteen);
 }
 
 pub length-wireBytes : (w : WireAddress) → WireSixteen w → length (wireBytes w) ≡ wireLength w

@@ -2,7 +2,7 @@
 -- reading one finds, and what writing one does.
 use Prim.Native.Nat.{ℕ, _+_}
 use mathlib.Core.Bool.{true, false, cond, _&&_}
-use mathlib.Core.List.{List, [], _∷_, _++_}
+use mathlib.Core.List.{List, [], _++_}
 use lib.ListN.{length, take, replicate}
 use lib.Seq.{sets}
 use lib.Dec.{ltb, leb, eqb}
@@ -43,11 +43,15 @@ hostOfKind kind = cond (eqb kind 0) (Decoded V4) (cond (eqb kind 3) (Decoded V6)
 unfoldable pub padded : List ℕ → ℕ → ℕ → List ℕ
 padded bytes at n = sets (replicate 16 0) 0 (part at n bytes)
 
--- the host of a kind at `at`; 4 is a service, 2 bytes, whose two padding bytes are dropped
+-- a service by its number and its padding: it has no bytes beside them
+abbrev pub serviceHost : ℕ → ℕ → HostAddress
+serviceHost number padding = record { host = Decoded (Svc (record { 0 = number })); bytes = replicate 16 0; padding = padding }
+
+-- the host of a kind at `at`; 4 is a service, 2 bytes, then 2 padding bytes, which no other host has
 unfoldable pub hostAt : ℕ → List ℕ → ℕ → HostAddress
 hostAt kind bytes at =
-    cond (eqb kind 4) (record { host = Decoded (Svc (record { 0 = bigEndian 2 bytes at })); bytes = replicate 16 0 })
-    (record { host = hostOfKind kind; bytes = padded bytes at (hostLength kind) })
+    cond (eqb kind 4) (serviceHost (bigEndian 2 bytes at) (bigEndian 2 bytes (at + 2)))
+    (record { host = hostOfKind kind; bytes = padded bytes at (hostLength kind); padding = 0 })
 
 -- a host that has a name, with its network; all zero where it has none
 unfoldable pub endhostIn : MaybeEncoded → List ℕ → IsdAsn → EndhostAddr
@@ -60,14 +64,28 @@ endhostOf a ia = endhostIn (a .host) (a .bytes) ia
 
 -- THE HEADER
 
--- the header of two ends whose hosts have names
+-- the header of two ends whose hosts have names; both paddings are zero
 unfoldable pub addressHeaderOf : ScionAddr → ScionAddr → AddressHeader
 addressHeaderOf destination source =
     record {
       «destination_ia» = destination .«isd_asn»;
       «source_ia» = source .«isd_asn»;
-      destination = record { host = Decoded (destination .host); bytes = destination .bytes };
-      source = record { host = Decoded (source .host); bytes = source .bytes };
+      destination = record { host = Decoded (destination .host); bytes = destination .bytes; padding = 0 };
+      source = record { host = Decoded (source .host); bytes = source .bytes; padding = 0 };
+    }
+
+-- the same host with this padding
+unfoldable pub withPadding : HostAddress → ℕ → HostAddress
+withPadding a padding = record { host = a .host; bytes = a .bytes; padding = padding }
+
+-- the same header with both paddings zero
+unfoldable pub withoutPadding : AddressHeader → AddressHeader
+withoutPadding a =
+    record {
+      «destination_ia» = a .«destination_ia»;
+      «source_ia» = a .«source_ia»;
+      destination = withPadding (a .destination) 0;
+      source = withPadding (a .source) 0;
     }
 
 -- its length: two network numbers and two hosts
@@ -108,15 +126,16 @@ addressAnswer r =
 
 -- WRITING
 
--- a host's own bytes: IPv4 has 4, IPv6 16; a service is its number, 2 bytes, then 2 padding bytes of zero
-unfoldable pub hostBytesOf : MaybeEncoded → List ℕ → List ℕ
-hostBytesOf (Decoded V4) bytes = take 4 bytes
-hostBytesOf (Decoded V6) bytes = take 16 bytes
-hostBytesOf (Decoded (Svc service)) bytes = bytesOf 2 (service .0) ++ (0 ∷ 0 ∷ [])
-hostBytesOf (Encoded kind) bytes = take (hostLength kind) bytes
+-- a host's own bytes: IPv4 has 4, IPv6 16; a service is its number, 2 bytes, then its 2 padding bytes. Of any other host the padding
+-- is not looked at
+unfoldable pub hostBytesOf : MaybeEncoded → List ℕ → ℕ → List ℕ
+hostBytesOf (Decoded V4) bytes padding = take 4 bytes
+hostBytesOf (Decoded V6) bytes padding = take 16 bytes
+hostBytesOf (Decoded (Svc service)) bytes padding = bytesOf 2 (service .0) ++ bytesOf 2 padding
+hostBytesOf (Encoded kind) bytes padding = take (hostLength kind) bytes
 
 unfoldable pub hostBytes : HostAddress → List ℕ
-hostBytes a = hostBytesOf (a .host) (a .bytes)
+hostBytes a = hostBytesOf (a .host) (a .bytes) (a .padding)
 
 -- the header's bytes, in the draft's order
 unfoldable pub addressBytes : AddressHeader → List ℕ
@@ -132,19 +151,19 @@ writeAddress a size = do
 
 -- THE HEADER AS IT IS ON THE WIRE, BY NUMBERS ALONE
 
--- a service's number, then zeros
-unfoldable pub serviceBytes : ℕ → List ℕ
-serviceBytes number = sets (replicate 16 0) 0 (bytesOf 2 number)
+-- a service's number and its padding, then zeros
+unfoldable pub serviceBytes : ℕ → ℕ → List ℕ
+serviceBytes number padding = sets (replicate 16 0) 0 (bytesOf 2 number ++ bytesOf 2 padding)
 
 -- sixteen bytes that begin with the host's own
-unfoldable pub rawOf : MaybeEncoded → List ℕ → List ℕ
-rawOf (Decoded V4) bytes = bytes
-rawOf (Decoded V6) bytes = bytes
-rawOf (Decoded (Svc service)) bytes = serviceBytes (service .0)
-rawOf (Encoded kind) bytes = bytes
+unfoldable pub rawOf : MaybeEncoded → List ℕ → ℕ → List ℕ
+rawOf (Decoded V4) bytes padding = bytes
+rawOf (Decoded V6) bytes padding = bytes
+rawOf (Decoded (Svc service)) bytes padding = serviceBytes (service .0) padding
+rawOf (Encoded kind) bytes padding = bytes
 
 unfoldable pub hostOnWire : HostAddress → WireHost
-hostOnWire a = record { kind = kindOf (a .host); bytes = rawOf (a .host) (a .bytes) }
+hostOnWire a = record { kind = kindOf (a .host); bytes = rawOf (a .host) (a .bytes) (a .padding) }
 
 unfoldable pub onWire : AddressHeader → WireAddress
 onWire a =

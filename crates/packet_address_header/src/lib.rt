@@ -34,10 +34,12 @@ pub enum MaybeEncoded {
     Encoded(u8),
 }
 
-// A host and the bytes beside it: they begin with the host's own, the others are zero. A service's number stands in `host`.
+// A host and the bytes beside it: they begin with the host's own, the others are zero. A service's number stands in `host`, and in
+// `padding` the two bytes that follow it on the wire; no other host has a padding, and there it is zero.
 pub struct HostAddress {
     pub host: MaybeEncoded,
     pub bytes: [u8; 16],
+    pub padding: u16,
 }
 
 pub struct AddressHeader {
@@ -84,12 +86,13 @@ fn raw_host_address(bytes: &[u8], at: usize, len: usize) -> [u8; 16]
     host
 }
 
-// A service's number, then zeros.
-fn service_bytes(number: u16) -> [u8; 16]
-    ensures { λ r. ⌜ r ≡ spec.serviceBytes number ⌝ }
+// A service's number and its padding, then zeros.
+fn service_bytes(number: u16, padding: u16) -> [u8; 16]
+    ensures { λ r. ⌜ r ≡ spec.serviceBytes number padding ⌝ }
 {
     let mut raw = [0; 16];
     put_u16(&mut raw, 0, number);
+    put_u16(&mut raw, 2, padding);
     raw
 }
 
@@ -163,8 +166,8 @@ impl MaybeEncoded {
         }
     }
 
-    // A host of a kind that is no service.
-    fn of_kind(kind: u8) -> MaybeEncoded
+    // A host of a kind that is no service: IPv4, IPv6, or one without a name.
+    pub fn of_kind(kind: u8) -> MaybeEncoded
         ensures { λ r. ⌜ r ≡ spec.hostOfKind kind ⌝ }
     {
         if kind == 0 {
@@ -193,7 +196,7 @@ impl HostAddress {
         AddressInfo(self.kind()).address_length()
     }
 
-    // The host of a kind at `at`, whose bytes are there; a service's two padding bytes are dropped.
+    // The host of a kind at `at`, whose bytes are there.
     fn read(bytes: &[u8], at: usize, kind: u8) -> HostAddress
         requires { ⌜ at + hostLength kind ≤ length (now bytes) ⌝ }
         ensures { λ r. ⌜ r ≡ spec.hostAt kind (now (bytes .entry)) at ⌝ }
@@ -201,29 +204,49 @@ impl HostAddress {
         let len = AddressInfo(kind).address_length();
         if kind == 4 {
             let number = u16_or_zero(bytes, at);
+            let padding = u16_or_zero(bytes, at + 2);
             return HostAddress {
                 host: MaybeEncoded::Decoded(HostAddr::Svc(ServiceAddr(number))),
                 bytes: [0; 16],
+                padding,
             };
         }
         let host = MaybeEncoded::of_kind(kind);
         let raw = raw_host_address(bytes, at, len);
-        HostAddress { host, bytes: raw }
+        HostAddress {
+            host,
+            bytes: raw,
+            padding: 0,
+        }
     }
 
-    // The host as it is on the wire; a service is its number, then zeros.
+    // The same host with this padding.
+    fn with_padding(self, padding: u16) -> HostAddress
+        ensures { λ r. ⌜ r ≡ spec.withPadding self padding ⌝ }
+    {
+        let host = self.host;
+        let bytes = self.bytes;
+        HostAddress {
+            host,
+            bytes,
+            padding,
+        }
+    }
+
+    // The host as it is on the wire; a service is its number and its padding.
     fn on_wire(self) -> WireHost
         ensures { λ r. ⌜ r ≡ spec.hostOnWire self ⌝ }
     {
         let host = self.host;
         let bytes = self.bytes;
+        let padding = self.padding;
         match host {
             MaybeEncoded::Decoded(named) => match named {
                 HostAddr::V4 => WireHost { kind: 0, bytes },
                 HostAddr::V6 => WireHost { kind: 3, bytes },
                 HostAddr::Svc(service) => WireHost {
                     kind: 4,
-                    bytes: service_bytes(service.0),
+                    bytes: service_bytes(service.0, padding),
                 },
             },
             MaybeEncoded::Encoded(kind) => WireHost { kind, bytes },
@@ -253,7 +276,7 @@ impl AddressHeader {
     // The length of the two network numbers.
     pub const BASE_LENGTH: usize = 16;
 
-    // The header of two ends.
+    // The header of two ends; their paddings are zero.
     pub fn new(destination: ScionAddr, source: ScionAddr) -> AddressHeader
         ensures { λ r. ⌜ r ≡ spec.addressHeaderOf destination source ⌝ }
     {
@@ -269,10 +292,12 @@ impl AddressHeader {
             destination: HostAddress {
                 host: MaybeEncoded::Decoded(to),
                 bytes: to_bytes,
+                padding: 0,
             },
             source: HostAddress {
                 host: MaybeEncoded::Decoded(from),
                 bytes: from_bytes,
+                padding: 0,
             },
         }
     }
@@ -298,12 +323,27 @@ impl AddressHeader {
         let host = HostAddress {
             host: MaybeEncoded::Decoded(HostAddr::V4),
             bytes: [0; 16],
+            padding: 0,
         };
         AddressHeader {
             destination_ia: IsdAsn(0),
             source_ia: IsdAsn(0),
             destination: host,
             source: host,
+        }
+    }
+
+    // The same header with both paddings zero, as the headers of a new packet have them.
+    pub fn without_padding(self) -> AddressHeader
+        ensures { λ r. ⌜ r ≡ spec.withoutPadding self ⌝ }
+    {
+        let destination_ia = self.destination_ia;
+        let source_ia = self.source_ia;
+        AddressHeader {
+            destination_ia,
+            source_ia,
+            destination: self.destination.with_padding(0),
+            source: self.source.with_padding(0),
         }
     }
 

@@ -6,7 +6,7 @@ use lib.ListN.{length}
 use lib.Dec.{leb, eqb}
 use Rattle.wire_encoding.specs.Result.{Result, ok, require, _>>_}
 use Rattle.packet_common_header.specs.CommonHeader.{commonFits, commonBytes}
-use Rattle.packet_address_header.specs.AddressHeader.{kindOf, addressLength, addressBytes}
+use Rattle.packet_address_header.specs.AddressHeader.{kindOf, withoutPadding, addressLength, addressBytes}
 use Rattle.packet_common_header.specs.declared.CommonHeader.{CommonHeader}
 use Rattle.packet_address_header.specs.declared.AddressHeader.{AddressHeader}
 use Rattle.errors.specs.declared.packet_error.EncodeError.{EncodeError}
@@ -26,7 +26,7 @@ addedLength type n = cond (eqb type 0) 0 n
 unfoldable pub headersLength : AddressHeader → ℕ → ℕ → ℕ
 headersLength address type n = 12 + addressLength address + addedLength type n
 
--- the headers of a new packet: the factor, HdrLen, is the header length / 4, rounded down
+-- the headers of a new packet: the factor, HdrLen, is the header length / 4, rounded down; both paddings are zero, whatever the hosts have
 unfoldable pub newHeaders : AddressHeader → ℕ → ℕ → ℕ → ℕ → ℕ → ScionHeaders
 newHeaders address type n nextHeader payload flow =
     record {
@@ -38,7 +38,7 @@ newHeaders address type n nextHeader payload flow =
       «payload_length» = payload;
       «path_type» = type;
       reserved = 0;
-      address = address;
+      address = withoutPadding address;
     }
 
 -- their length as a 64-bit number: the largest stands for all that are larger

@@ -48,7 +48,8 @@ fn fills(fixed: usize, added: usize, size: usize) -> bool
 }
 
 impl ScionHeaders {
-    // The headers of a packet with a path of `path_len` bytes: version, traffic class and reserved bytes 0, the factor by the lengths.
+    // The headers of a new packet with a path of `path_len` bytes: version, traffic class, reserved bytes and both paddings 0, those of
+    // hosts that were read too; the factor by the lengths.
     pub fn new(
         address: AddressHeader,
         path_type: u8,
@@ -70,7 +71,7 @@ impl ScionHeaders {
             payload_length,
             path_type,
             reserved: 0,
-            address,
+            address: address.without_padding(),
         }
     }
 

@@ -17,7 +17,7 @@ use Rattle.scion_packets.specs.declared.ScionHost.{ScionHost}
 use Rattle.scion_packets.specs.Packets.{hostOut, packetOut}
 
 abbrev zero-host : ScionHost
-zero-host = record { kind = 0; service = 0; bytes = replicate 16 0 }
+zero-host = record { kind = 0; service = 0; bytes = replicate 16 0; padding = 0 }
 
 abbrev none : Part
 none = record { start = 0; len = 0 }

@@ -27,14 +27,16 @@ serviceOf (host.Decoded V6) = 0
 serviceOf (host.Decoded (Svc service)) = service .0
 serviceOf (host.Encoded kind) = 0
 
--- a host: its kind on the wire, its service's number, its sixteen bytes
+-- a host: its kind on the wire, its service's number, its sixteen bytes, its padding
 unfoldable pub hostOut : HostAddress → ScionHost
-hostOut a = record { kind = kindOf (a .host); service = serviceOf (a .host); bytes = a .bytes }
+hostOut a = record { kind = kindOf (a .host); service = serviceOf (a .host); bytes = a .bytes; padding = a .padding }
 
--- a host to be written: 4 is a service, 0 IPv4, 3 IPv6, any other opaque
+-- a host to be written: 4 is a service, 0 IPv4, 3 IPv6, any other opaque; the padding of any but a service is zero, whatever C says
 unfoldable pub hostIn : ScionHost → HostAddress
 hostIn c =
-    record { host = cond (eqb (c .kind) 4) (host.Decoded (Svc (record { 0 = c .service }))) (hostOfKind (c .kind)); bytes = c .bytes }
+    cond (eqb (c .kind) 4)
+    (record { host = host.Decoded (Svc (record { 0 = c .service })); bytes = c .bytes; padding = c .padding })
+    (record { host = hostOfKind (c .kind); bytes = c .bytes; padding = 0 })
 
 -- both ends
 unfoldable pub addressIn : ℕ → ScionHost → ℕ → ScionHost → AddressHeader

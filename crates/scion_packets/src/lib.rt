@@ -15,12 +15,13 @@ use scion_paths::decoded_out;
 ghost use mathlib.Core.Path.{_≡_};
 ghost use Rattle.scion_packets.specs.Packets as spec;
 
-// A host: its kind on the wire, a service's number, or the first bytes of `bytes`.
+// A host: its kind on the wire, a service's number and padding, or the first bytes of `bytes`.
 #[repr(C)]
 pub struct ScionHost {
     pub kind: u8,
     pub service: u16,
     pub bytes: [u8; 16],
+    pub padding: u16,
 }
 
 // A packet that was split: every value of its headers, and where its path and its payload lie.
@@ -85,10 +86,11 @@ pub fn host_out(address: HostAddress) -> ScionHost
         kind: host.kind(),
         service: service_of(host),
         bytes,
+        padding: address.padding,
     }
 }
 
-// A host to be written, by its kind.
+// A host to be written, by its kind; only a service has a padding.
 pub fn host_in(given: ScionHost) -> HostAddress
     ensures { λ r. ⌜ r ≡ spec.hostIn given ⌝ }
 {
@@ -98,23 +100,13 @@ pub fn host_in(given: ScionHost) -> HostAddress
         return HostAddress {
             host: MaybeEncoded::Decoded(HostAddr::Svc(ServiceAddr(given.service))),
             bytes,
-        };
-    }
-    if kind == 0 {
-        return HostAddress {
-            host: MaybeEncoded::Decoded(HostAddr::V4),
-            bytes,
-        };
-    }
-    if kind == 3 {
-        return HostAddress {
-            host: MaybeEncoded::Decoded(HostAddr::V6),
-            bytes,
+            padding: given.padding,
         };
     }
     HostAddress {
-        host: MaybeEncoded::Encoded(kind),
+        host: MaybeEncoded::of_kind(kind),
         bytes,
+        padding: 0,
     }
 }
 

@@ -15,7 +15,7 @@ use Rattle.packet_common_header.specs.CommonHeader.{hostLength}
 use Rattle.packet_address_header.specs.AddressHeader.{kindOf, hostAt, lengthOfKinds, addressLength, addressAt, readAddress, hostBytes, addressBytes}
 use Rattle.packet_address_header.specs.declared.AddressHeader.{AddressHeader}
 use Rattle.packet_address_header.proofs.AddressHeaderLaws.{kind-read, address-read, Sixteen, length-hostBytes, length-addressBytes}
-use Rattle.written_read.specs.WrittenRead.{hostRead, addressRead, PaddingZero}
+use Rattle.written_read.specs.WrittenRead.{hostRead, addressRead}
 use Rattle.written_read.proofs.Hosts.{host-own, host-written}
 
 -- READ AS IT WAS WRITTEN
@@ -94,19 +94,18 @@ module _ (a : AddressHeader) (after : List ℕ) (s : Sixteen a) where
 -- WRITTEN AS IT WAS READ
 
 module _ (bytes : List ℕ) (destination source : ℕ) where
-  pub address-written : Bytes bytes → lengthOfKinds destination source ≤ length bytes → PaddingZero destination bytes 16
-      → PaddingZero source bytes (16 + hostLength destination)
+  pub address-written : Bytes bytes → lengthOfKinds destination source ≤ length bytes
       → addressBytes (addressAt bytes destination source) ≡ take (lengthOfKinds destination source) bytes
   unfolding addressAt addressBytes lengthOfKinds
-  address-written b long destination-zero source-zero =
+  address-written b long =
       let d : ℕ = hostLength destination in
       let s : ℕ = hostLength source in
       let sum : 8 + (8 + (d + s)) ≡ 16 + d + s = omega arith in
       rw (
         bytes-read 8 bytes b 0 (omega arith),
         bytes-read 8 bytes b 8 (omega arith),
-        host-written destination 16 bytes b (omega arith) destination-zero,
-        host-written source (16 + d) bytes b (omega arith) source-zero,
+        host-written destination 16 bytes b (omega arith),
+        host-written source (16 + d) bytes b (omega arith),
         part-join 16 d s bytes,
       )
       (ap (λ (l : List ℕ). take 8 bytes ++ l) (part-join 8 8 (d + s) bytes)

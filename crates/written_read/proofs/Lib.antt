@@ -5,3 +5,5 @@ pub mod InOrder
 pub mod ReadsBack
 pub mod WritesAgain
 pub mod NewHeaders
+pub mod OverC
+pub mod Examples

@@ -12,7 +12,7 @@ use lib.Dec.{eqb}
 use Rattle.wire_encoding.specs.Result.{Result, ok}
 use Rattle.wire_encoding.specs.BigEndian.{part}
 use Rattle.wire_encoding.proofs.Result.{same-value}
-use Rattle.wire_encoding.proofs.Lists.{Bytes, part-part, part-join, bytes-part}
+use Rattle.wire_encoding.proofs.Lists.{Bytes, part-join, bytes-part}
 use Rattle.errors.specs.declared.packet_error.DecodeError.{DecodeError}
 use Rattle.path.specs.Dataplane.{Extent, unread, readDataplane}
 use Rattle.packet_common_header.specs.CommonHeader.{commonAt, headerLength, hostLength, commonBytes, commonFits}
@@ -26,7 +26,7 @@ use Rattle.packet.proofs.RawLaws.{Split, split, where-found, end-inside, sees, 
 use Rattle.packet_headers.specs.Headers as headers
 use Rattle.packet_headers.specs.Headers.{addedBytes, addedLength, headersLength, headerBytes, writeHeaders}
 use Rattle.packet_headers.proofs.Headers.{headers-written, length-addedBytes}
-use Rattle.written_read.specs.WrittenRead.{headersOf, PaddingZero, WritesAgain}
+use Rattle.written_read.specs.WrittenRead.{headersOf, WritesAgain}
 use Rattle.written_read.proofs.Commons.{common-fields, common-written}
 use Rattle.written_read.proofs.Addresses.{address-written}
 
@@ -68,7 +68,7 @@ module _ (bytes : List ℕ) (b : Bytes bytes) (p : Packet) (s : Split bytes p) w
   abbrev seen : List ℕ
   seen = part 12 (end - 12) bytes
 
-  address-was : AddressKnown seen dk sk (p .address)
+  pub address-was : AddressKnown seen dk sk (p .address)
   address-was = address-known seen dk sk (rw (sees (where-found s .first) 12 (end-inside (where-found s .first) .0)) (s .address))
 
   n-is : n ≡ lengthOfKinds dk sk
@@ -101,46 +101,30 @@ module _ (bytes : List ℕ) (b : Bytes bytes) (p : Packet) (s : Split bytes p) w
       (λ none. omega (arith, known .factor, factor)) (omega (arith, b 5 .fits, factor)) (omega (arith, fields .payload, payload))
       (omega (arith, added))
 
-  -- the padding bytes as the address header sees them
-  padding-seen : (kind at : ℕ) → at + 4 ≤ n → PaddingZero kind bytes (12 + at) → PaddingZero kind seen at
-  padding-seen kind at room zero =
-      let place : 12 + (at + 2) ≡ 12 + at + 2 = omega arith in
-      record {
-        padding = λ service.
-            part-part 12 (end - 12) (at + 2) 2 bytes (omega (arith, start-inside (where-found s))) (omega (arith, end-inside (where-found s .first)))
-            ∙ ap (λ (q : ℕ). part q 2 bytes) place
-            ∙ zero .padding service;
-      }
+  -- the address header's bytes are those that it sees first
+  address-again : addressBytes (p .address) ≡ part 12 n bytes
+  address-again =
+      ap addressBytes (address-was .header)
+      ∙ address-written seen dk sk (bytes-part 12 (end - 12) bytes b) (address-was .inside)
+      ∙ ap (λ (m : ℕ). take m seen) (sym n-is)
+      ∙ take-take n (end - 12) (drop 12 bytes) (omega (arith, start-inside (where-found s)))
 
-  module _ (destination : PaddingZero dk bytes 28) (source : PaddingZero sk bytes (28 + hostLength dk)) where
-    -- the address header's bytes are those that it sees first
-    address-again : addressBytes (p .address) ≡ part 12 n bytes
-    unfolding lengthOfKinds hostLength
-    address-again =
-        let place : 28 + hostLength dk ≡ 12 + (16 + hostLength dk) = omega arith in
-        ap addressBytes (address-was .header)
-        ∙ address-written seen dk sk (bytes-part 12 (end - 12) bytes b) (address-was .inside)
-        (padding-seen dk 16 (omega (arith, n-is)) destination)
-        (padding-seen sk (16 + hostLength dk) (omega (arith, n-is)) (rw place at source))
-        ∙ ap (λ (m : ℕ). take m seen) (sym n-is)
-        ∙ take-take n (end - 12) (drop 12 bytes) (omega (arith, start-inside (where-found s)))
-
-    same-again : headerBytes (headersOf p) path ≡ take (12 + n + length path) bytes
-    unfolding headerBytes headersOf pathPart
-    same-again =
-        let known = common-known bytes (s .common) in
-        let sum : 12 + (n + length path) ≡ 12 + n + length path = omega arith in
-        let common : commonBytes (headers.commonOf (headersOf p)) ≡ take 12 bytes =
-        ap commonBytes (common-again ∙ known .fields) ∙ common-written bytes b (known .long) in
-        rw (common, address-again, path-added)
-        (ap (λ (l : List ℕ). take 12 bytes ++ (part 12 n bytes ++ l)) (sym (path-lies s))
-        ∙ ap (λ (l : List ℕ). take 12 bytes ++ l) (part-join 12 n (length path) bytes)
-        ∙ part-join 0 12 (n + length path) bytes
-        ∙ ap (λ (m : ℕ). take m bytes) sum)
+  same-again : headerBytes (headersOf p) path ≡ take (12 + n + length path) bytes
+  unfolding headerBytes headersOf pathPart
+  same-again =
+      let known = common-known bytes (s .common) in
+      let sum : 12 + (n + length path) ≡ 12 + n + length path = omega arith in
+      let common : commonBytes (headers.commonOf (headersOf p)) ≡ take 12 bytes =
+      ap commonBytes (common-again ∙ known .fields) ∙ common-written bytes b (known .long) in
+      rw (common, address-again, path-added)
+      (ap (λ (l : List ℕ). take 12 bytes ++ (part 12 n bytes ++ l)) (sym (path-lies s))
+      ∙ ap (λ (l : List ℕ). take 12 bytes ++ l) (part-join 12 n (length path) bytes)
+      ∙ part-join 0 12 (n + length path) bytes
+      ∙ ap (λ (m : ℕ). take m bytes) sum)
 
 pub writes-again : WritesAgain
 unfolding payloadPart
-writes-again bytes p small read u =
+writes-again bytes p small read =
     let b : Bytes bytes = λ i. record { fits = small i } in
     let s : Split bytes p = split bytes read in
-    accepted-again bytes b p s ∙ ap (λ (l : List ℕ). ok l) (same-again bytes b p s (u .destination) (u .source))
+    accepted-again bytes b p s ∙ ap (λ (l : List ℕ). ok l) (same-again bytes b p s)

@@ -1,1 +1,3 @@
 pub mod WrittenRead
+pub mod OverC
+pub mod Examples

@@ -6,10 +6,13 @@ use mathlib.Core.List.{List, [], _∷_, _++_}
 use lib.ListN.{length, getD, take, drop}
 use Rattle.wire_encoding.specs.Result.{ok, mapped}
 use Rattle.wire_encoding.specs.BigEndian.{part}
+use Rattle.address.specs.declared.service.ServiceAddr.{ServiceAddr}
+use Rattle.address.specs.declared.host.HostAddr.the-variants.{Svc}
 use Rattle.path.specs.Dataplane.{readDataplane}
 use Rattle.path.specs.declared.standard.StandardPath.{StandardPath}
 use Rattle.packet_common_header.specs.CommonHeader.{hostLength}
-use Rattle.packet_address_header.specs.AddressHeader.{kindOf, hostAt, addressLength, zeroAddress, hostBytes}
+use Rattle.packet_address_header.specs.AddressHeader.{kindOf, serviceHost, hostAt, addressLength, zeroAddress, hostBytes}
+use Rattle.packet_address_header.specs.declared.MaybeEncoded.the-variants.{Decoded}
 use Rattle.packet_address_header.specs.declared.HostAddress.{HostAddress}
 use Rattle.packet_address_header.specs.declared.AddressHeader.{AddressHeader}
 use Rattle.packet.specs.Raw.{Packet, readPacket, payloadPart}
@@ -48,7 +51,7 @@ pub record Fills (h : ScionHeaders) (path : List ℕ) (stored : StandardPath) : 
   pub full : 4 * h .«header_length_factor» ≡ headersLength (h .address) (h .«path_type») (length path)
   pub path-read : ReadWhole (h .«path_type») (addedBytes (h .«path_type») path) stored
 
--- a host as reading hands it back: by its kind, the bytes after its own zero
+-- a host as reading hands it back: by its kind, the bytes after its own zero, and so is the padding of any but a service
 unfoldable pub hostRead : HostAddress → HostAddress
 hostRead a = hostAt (kindOf (a .host)) (hostBytes a) 0
 
@@ -105,7 +108,24 @@ RoundedDown =
     × (mapped (λ (p : Packet). p .path-bytes) (readPacket bytes) ≡ ok [])
     × (drop 36 bytes ≡ path)
 
+-- where the host at `at` is a service, its two padding bytes are zero
+abbrev pub PaddingZero : HostAddress → List ℕ → ℕ → Type 0
+PaddingZero a bytes at = (service : ServiceAddr) → a .host ≡ Decoded (Svc service) → part (at + 2) 2 bytes ≡ 0 ∷ 0 ∷ []
+
+-- they are written with padding zero at both ends, whatever padding the hosts have that they are made of
+abbrev pub NewHeadersPadding : Type 0
+NewHeadersPadding =
+    (a : AddressHeader) (type : ℕ) (path : List ℕ) (next payload flow size : ℕ) (written : List ℕ) → length (a .destination .bytes) ≡ 16
+    → writeHeaders (newHeaders a type (length path) next payload flow) path size ≡ ok written
+    → PaddingZero (a .destination) written 28 × PaddingZero (a .source) written (28 + hostLength (kindOf (a .destination .host)))
+
 -- HOSTS
+
+-- a service that was written, wherever it stands, is read back with its number and its padding
+abbrev pub ServiceReadBack : Type 0
+ServiceReadBack =
+    (number padding : ℕ) (before after : List ℕ) → number < 2 ^ 16 → padding < 2 ^ 16
+    → hostAt 4 (before ++ (hostBytes (serviceHost number padding) ++ after)) (length before) ≡ serviceHost number padding
 
 -- a host that was read is read back as it is
 abbrev pub HostsReadBack : Type 0
@@ -115,7 +135,7 @@ HostsReadBack =
 
 -- WRITING AGAIN WHAT WAS READ
 
--- the headers of a packet that was read, its factor and its reserved bytes with them
+-- the headers of a packet that was read: its factor and its reserved bytes with them, and in its hosts their padding
 unfoldable pub headersOf : Packet → ScionHeaders
 headersOf p =
     record {
@@ -130,16 +150,9 @@ headersOf p =
       address = p .address;
     }
 
--- a service's two padding bytes, which reading drops and writing sets to zero
-pub record PaddingZero (kind : ℕ) (bytes : List ℕ) (at : ℕ) : Type 0 where
-  pub padding : kind ≡ 4 → part (at + 2) 2 bytes ≡ 0 ∷ 0 ∷ []
-
-pub record Unpadded (bytes : List ℕ) (p : Packet) : Type 0 where
-  pub destination : PaddingZero (p .common .«destination_kind») bytes 28
-  pub source : PaddingZero (p .common .«source_kind») bytes (28 + hostLength (p .common .«destination_kind»))
-
--- the encoder accepts them, and writes the bytes before the payload; a packet shorter than its header length is written so too
+-- the encoder accepts them, and writes the bytes before the payload, whatever they are; a packet shorter than its header length is
+-- written so too
 abbrev pub WritesAgain : Type 0
 WritesAgain =
-    (bytes : List ℕ) (p : Packet) → ((i : ℕ) → getD bytes i 0 < 256) → readPacket bytes ≡ ok p → Unpadded bytes p
+    (bytes : List ℕ) (p : Packet) → ((i : ℕ) → getD bytes i 0 < 256) → readPacket bytes ≡ ok p
     → writeHeaders (headersOf p) (p .path-bytes) (payloadPart p .start) ≡ ok (take (payloadPart p .start) bytes)

@@ -127,7 +127,8 @@ impl Path {
 }
 
 impl Headers {
-    /// Headers between two hosts: version, traffic class and reserved 0, and the factor that follows from the lengths.
+    /// Headers between two hosts: version, traffic class, reserved and a service's padding 0, and the factor that follows
+    /// from the lengths.
     pub fn new(
         ends: &Ends,
         path_type: u8,

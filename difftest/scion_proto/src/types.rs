@@ -104,13 +104,17 @@ impl Part {
     }
 }
 
-/// A host: a service's number, or the first bytes of `bytes`, the others zero.
+/// A host: a service's number and padding, or the first bytes of `bytes`, the others zero.
+///
+/// `padding` is the number in the two bytes that follow a service's number. It is 0 where any other host was read and in
+/// new headers, and of any other host it is not written.
 #[repr(C)]
 #[derive(Debug, Clone, Copy, PartialEq, Eq, Default)]
 pub struct Host {
     pub kind: u8,
     pub service: u16,
     pub bytes: [u8; 16],
+    pub padding: u16,
 }
 
 /// The networks and the hosts at the two ends of a packet.
@@ -292,6 +296,27 @@ pub struct Packet {
     pub payload_part: Part,
 }
 
+impl Packet {
+    /// The headers that were read: with the packet's path part, into as many bytes as stand before its payload part, they
+    /// are written as they arrived.
+    pub fn headers(&self) -> Headers {
+        Headers {
+            version: self.version,
+            traffic_class: self.traffic_class,
+            next_header: self.next_header,
+            path_type: self.path_type,
+            reserved: self.reserved,
+            flow_id: self.flow_id,
+            header_length_factor: self.header_length_factor.into(),
+            payload_length: self.payload_length.into(),
+            destination_ia: self.destination_ia,
+            source_ia: self.source_ia,
+            destination: self.destination,
+            source: self.source,
+        }
+    }
+}
+
 /// Headers to be written.
 #[repr(C)]
 #[derive(Debug, Clone, Copy, PartialEq, Eq, Default)]
@@ -357,7 +382,7 @@ macro_rules! laid_out {
 laid_out!(Answer: 2 { number @ 0 value @ 1 });
 laid_out!(Path: 16 { current_info_field @ 0 current_hop_field @ 1 reserved @ 2 segment_lengths @ 3 expiry @ 8 });
 laid_out!(Part: 16 { start @ 0 len @ 8 });
-laid_out!(Host: 20 { kind @ 0 service @ 2 bytes @ 4 });
+laid_out!(Host: 22 { kind @ 0 service @ 2 bytes @ 4 padding @ 20 });
 laid_out!(PathAnswer: 24 { answer @ 0 path @ 8 });
 laid_out!(PathRead: 32 { answer @ 0 path @ 8 length @ 24 });
 laid_out!(WrittenPath: 32 { answer @ 0 path @ 8 length @ 24 });
@@ -373,12 +398,12 @@ laid_out!(TimeLeft: 32 { answer @ 0 path @ 8 ms @ 24 });
 laid_out!(InterfaceCount: 32 { answer @ 0 path @ 8 count @ 24 });
 laid_out!(Interface: 40 { answer @ 0 path @ 8 hop_field @ 24 id @ 32 });
 laid_out!(Walk: 40 { answer @ 0 path @ 8 moves @ 24 arrived @ 32 });
-laid_out!(Packet: 128 {
+laid_out!(Packet: 136 {
     answer @ 0 path @ 8 version @ 24 traffic_class @ 25 next_header @ 26 header_length_factor @ 27 path_type @ 28
-    payload_length @ 30 reserved @ 32 flow_id @ 36 destination_ia @ 40 source_ia @ 48 destination @ 56 source @ 76
-    path_part @ 96 payload_part @ 112
+    payload_length @ 30 reserved @ 32 flow_id @ 36 destination_ia @ 40 source_ia @ 48 destination @ 56 source @ 78
+    path_part @ 104 payload_part @ 120
 });
-laid_out!(Headers: 88 {
+laid_out!(Headers: 96 {
     version @ 0 traffic_class @ 1 next_header @ 2 path_type @ 3 reserved @ 4 flow_id @ 8 header_length_factor @ 16
-    payload_length @ 24 destination_ia @ 32 source_ia @ 40 destination @ 48 source @ 68
+    payload_length @ 24 destination_ia @ 32 source_ia @ 40 destination @ 48 source @ 70
 });

@@ -10,12 +10,18 @@ use super::Line;
 use super::paths::add_record;
 use crate::oracle::{headers, packet, write};
 
-/// Adds a host: kind, service number, all 16 bytes.
+/// Adds a host of an address: kind, service number, all 16 bytes.
 fn add_host(line: &mut Line, host: &Host) {
     line.add(host.kind).add(host.service).add_bytes(&host.bytes);
 }
 
-/// The host in words k to k + 2: kind, service number, at most 16 bytes.
+/// Adds a host of an address header: as that of an address, and a service's padding.
+fn add_padded_host(line: &mut Line, host: &Host) {
+    add_host(line, host);
+    line.add(host.padding);
+}
+
+/// The host of an address in words k to k + 2: kind, service number, at most 16 bytes.
 fn host_at(line: &Line, k: usize) -> Host {
     let mut host = Host { kind: line.byte(k), service: line.number(k + 1) as u16, ..Host::default() };
     let bytes = line.bytes(k + 2);
@@ -23,21 +29,26 @@ fn host_at(line: &Line, k: usize) -> Host {
     host
 }
 
-/// The ends in eight words from word k on: both networks, then both hosts, the destination first.
+/// The host of an address header in words k to k + 3: as that of an address, and a service's padding.
+fn padded_host_at(line: &Line, k: usize) -> Host {
+    Host { padding: line.number(k + 3) as u16, ..host_at(line, k) }
+}
+
+/// The address header in ten words from word k on: both networks, then both hosts, the destination first.
 fn ends_at(line: &Line, k: usize) -> Ends {
     Ends {
         destination_ia: line.number(k),
         source_ia: line.number(k + 1),
-        destination: host_at(line, k + 2),
-        source: host_at(line, k + 5),
+        destination: padded_host_at(line, k + 2),
+        source: padded_host_at(line, k + 6),
     }
 }
 
-/// Adds both networks and both hosts.
+/// Adds both networks and both hosts of an address header.
 fn add_ends(line: &mut Line, ends: &Ends) {
     line.add(ends.destination_ia).add(ends.source_ia);
-    add_host(line, &ends.destination);
-    add_host(line, &ends.source);
+    add_padded_host(line, &ends.destination);
+    add_padded_host(line, &ends.source);
 }
 
 /// `packet B`: number, value, common header, networks, hosts, record, and path and payload, each with where it starts.
@@ -49,8 +60,8 @@ fn read(line: &mut Line) {
     line.add(packet.header_length_factor).add(packet.payload_length).add(packet.path_type);
     line.add(packet.destination.kind).add(packet.source.kind).add(packet.reserved);
     line.add(packet.destination_ia).add(packet.source_ia);
-    add_host(line, &packet.destination);
-    add_host(line, &packet.source);
+    add_padded_host(line, &packet.destination);
+    add_padded_host(line, &packet.source);
     add_record(line, packet.path);
     for part in [packet.path_part, packet.payload_part] {
         line.add(part.start).add_bytes(&bytes[part.start..part.start + part.len]);
@@ -59,7 +70,7 @@ fn read(line: &mut Line) {
 
 /// `new next payload flow type E P D`: the factor of headers made for ends E and path bytes P, and the headers written to D.
 fn new(line: &mut Line) {
-    let (ends, path, mut dst) = (ends_at(line, 5), line.bytes(13), line.bytes(14));
+    let (ends, path, mut dst) = (ends_at(line, 5), line.bytes(15), line.bytes(16));
     let (made, _) = write::new_headers(&ends, line.byte(4), &path, line.byte(1), line.index(2), line.number(3) as u32);
     let (answer, source) = write::write_new_headers(&ends, &made, &path, &mut dst);
     line.source = source;
@@ -83,7 +94,7 @@ fn write_headers(line: &mut Line) {
         source_ia: ends.source_ia,
         source: ends.source,
     };
-    let (path, mut dst) = (line.bytes(17), line.bytes(18));
+    let (path, mut dst) = (line.bytes(19), line.bytes(20));
     let (answer, source) = write::write_headers(&headers, &path, &mut dst);
     line.source = source;
     line.add(write::headers_length(&headers, &path).0).add(answer.number).add_bytes(&dst);
@@ -170,7 +181,8 @@ fn endhost(line: &mut Line) -> bool {
     true
 }
 
-/// `newaddr E D`: the length of the address header made of two ends whose hosts have names, and the header written to D.
+/// `newaddr n m H K D`: the length of the address header made of host H in network n and host K in network m, which have
+/// names, and the header written to D.
 fn new_address(line: &mut Line) -> bool {
     let destination = scion_address_at(line, line.number(1), 3);
     let (Some(destination), Some(source)) = (destination, scion_address_at(line, line.number(2), 6)) else {
@@ -188,7 +200,7 @@ fn new_address(line: &mut Line) -> bool {
 
 /// `putaddress E D`: networks and hosts written to D.
 fn put_address(line: &mut Line) {
-    let (ends, mut dst) = (ends_at(line, 1), line.bytes(9));
+    let (ends, mut dst) = (ends_at(line, 1), line.bytes(11));
     let (answer, source) = headers::write_address(&ends, &mut dst);
     line.source = source;
     line.add(answer.number).add_bytes(&dst);

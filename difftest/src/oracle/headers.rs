@@ -6,10 +6,11 @@ use scion_rs::packet::{AddressHeader, AddressInfo, ByEndpoint, CommonHeader, Flo
 use scion_rs::path::PathType;
 use scion_rs::wire_encoding::{WireDecode, WireDecodeWithContext, WireEncode};
 
-use super::packet::host;
+use super::packet::padded_hosts;
 use super::path::Expected;
-use super::write::{factor, rust_host};
+use super::write::{factor, has_padding, rust_host};
 use super::{ACCEPTED, number_of, refusal};
+use crate::model;
 use crate::tally::{Exception, Source};
 
 /// The fields of a common header, as wide as a caller may give them.
@@ -105,11 +106,12 @@ pub fn read_address(bytes: &[u8], destination_kind: u8, source_kind: u8) -> (Ans
     let kinds = kinds.map(|kind| kind.expect("a kind of 4 bits"));
     match AddressHeader::decode_with_context(&mut &bytes[..], kinds) {
         Ok(header) => {
+            let [destination, source] = padded_hosts(&header, kinds, bytes);
             let ends = Ends {
                 destination_ia: header.ia.destination.to_u64(),
-                destination: host(&header.host.destination, kinds.destination),
+                destination,
                 source_ia: header.ia.source.to_u64(),
-                source: host(&header.host.source, kinds.source),
+                source,
             };
             (ACCEPTED, ends, header.encoded_length())
         }
@@ -126,11 +128,15 @@ pub fn named_ends(bytes: &[u8], destination_kind: u8, source_kind: u8) -> [Optio
         .map_or([Some(zero); 2], |header| [header.destination(), header.source()])
 }
 
-/// An address header written.
+/// An address header written; by the model where a service in it has a padding.
 pub fn write_address(ends: &Ends, dst: &mut [u8]) -> Expected<Answer> {
     let (Some(destination), Some(source)) = (rust_host(&ends.destination), rust_host(&ends.source)) else {
         return (refusal(10), Source::Rust);
     };
     let ia = ByEndpoint { source: IsdAsn(ends.source_ia), destination: IsdAsn(ends.destination_ia) };
-    write(&AddressHeader { ia, host: ByEndpoint { source, destination } }, dst)
+    let (answer, source) = write(&AddressHeader { ia, host: ByEndpoint { source, destination } }, dst);
+    if answer == ACCEPTED && has_padding(&ends.destination, &ends.source) {
+        return (model::write_address(ends, dst), Source::Excepted(Exception::ServicePadding));
+    }
+    (answer, source)
 }

@@ -1,11 +1,15 @@
-//! Packets: split by the Rust.
+//! Packets: split by the Rust; the paddings of services, which it drops, are by request 2026-05's text.
 
 use scion_proto::{Host, Packet, Part};
 use scion_rs::address::HostAddr;
-use scion_rs::packet::{AddressInfo, CommonHeader, RawHostAddress, ScionPacketRaw};
+use scion_rs::packet::{AddressHeader, AddressInfo, ByEndpoint, CommonHeader, RawHostAddress, ScionPacketRaw};
 use scion_rs::wire_encoding::{MaybeEncoded, WireDecode, WireEncode};
 
 use super::{ACCEPTED, Refused, lend, number_of, offset, record};
+use crate::model;
+
+/// How many bytes the two networks take that begin an address header.
+const NETWORKS_LENGTH: usize = 16;
 
 /// A host as the Rust holds it.
 pub type RustHost = MaybeEncoded<HostAddr, (AddressInfo, RawHostAddress)>;
@@ -30,6 +34,7 @@ fn values(bytes: &[u8], packet: &ScionPacketRaw) -> Packet {
     let path = &packet.headers.path;
     let path_start = CommonHeader::LENGTH + address.encoded_length();
     let payload_start = common.header_length().min(bytes.len());
+    let [destination, source] = padded_hosts(address, common.address_info, &bytes[CommonHeader::LENGTH..]);
     Packet {
         answer: ACCEPTED,
         path: record(path),
@@ -43,11 +48,21 @@ fn values(bytes: &[u8], packet: &ScionPacketRaw) -> Packet {
         flow_id: common.flow_id.get(),
         destination_ia: address.ia.destination.to_u64(),
         source_ia: address.ia.source.to_u64(),
-        destination: host(&address.host.destination, common.address_info.destination),
-        source: host(&address.host.source, common.address_info.source),
+        destination,
+        source,
         path_part: part(bytes, path.raw(), path_start),
         payload_part: part(bytes, &packet.payload, payload_start),
     }
+}
+
+/// The destination's and the source's host of an address header that `bytes` begin with: the Rust's values, and the model's
+/// paddings of these bytes.
+pub fn padded_hosts(address: &AddressHeader, kinds: ByEndpoint<AddressInfo>, bytes: &[u8]) -> [Host; 2] {
+    let [to, from] = model::paddings([kinds.destination.get(), kinds.source.get()], &bytes[NETWORKS_LENGTH..]);
+    [
+        Host { padding: to, ..host(&address.host.destination, kinds.destination) },
+        Host { padding: from, ..host(&address.host.source, kinds.source) },
+    ]
 }
 
 /// A host's kind and its number or bytes.

@@ -157,9 +157,14 @@ pub fn factor(factor: usize) -> Result<NonZeroU8, Answer> {
     NonZeroU8::new(byte).ok_or(refusal(3))
 }
 
-/// The headers written by the Rust to `dst`.
+/// Whether a service among two hosts has a padding that is not zero: the Rust has none, and writes zero.
+pub fn has_padding(destination: &Host, source: &Host) -> bool {
+    [destination, source].iter().any(|host| host.kind == 4 && host.padding != 0)
+}
+
+/// The headers written by the Rust to `dst`; by the model where it accepts them and a service in them has a padding.
 pub fn write_headers(headers: &Headers, path: &[u8], dst: &mut [u8]) -> Expected<Answer> {
-    match rust_headers(headers, path) {
+    let (answer, source) = match rust_headers(headers, path) {
         Ok((rust, contradicts)) => written(&rust, contradicts, dst),
         Err(Unbuilt::Refused(answer)) => (answer, Source::Rust),
         Err(Unbuilt::NoRoom(answer)) => (answer, Source::Model),
@@ -167,7 +172,11 @@ pub fn write_headers(headers: &Headers, path: &[u8], dst: &mut [u8]) -> Expected
             let answer = model::write_headers(headers, path, dst);
             (answer, Source::Excepted(Exception::UnreadStandardPathWritten))
         }
+    };
+    if answer == ACCEPTED && has_padding(&headers.destination, &headers.source) {
+        return (model::write_headers(headers, path, dst), Source::Excepted(Exception::ServicePadding));
     }
+    (answer, source)
 }
 
 /// The Rust's headers written to `dst`; a longer one gets 9, as document 01 has it.

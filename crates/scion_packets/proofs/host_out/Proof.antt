@@ -1,4 +1,4 @@
--- `host_out` meets its contract: the host's kind, its service's number and its bytes.
+-- `host_out` meets its contract: the host's kind, its service's number, its bytes and its padding.
 use Rattle.scion_packets.specs.Packets.{hostOut}
 use borrow.Author.Needs.{needs}
 use Rattle.scion_packets.proofs.host_out.Statement.{statement}

@@ -1,4 +1,5 @@
 -- `HostAddress::read` meets its contract: kind 4 is a service, any other keeps its bytes.
+use Prim.Native.Nat.{_+_}
 use borrow.Author.Tests.{eq-eqb, ne-eqb}
 use native.Mathlib.Omega.{arith}
 use Rattle.wire_encoding.proofs.BigEndian.{or-zero-is}
@@ -11,8 +12,15 @@ use Rattle.packet_address_header.proofs.HostAddress.read.Tie as tie
 returns : tie.Need-returns
 unfolding hostAt hostLength
 returns c =
-    let args = c .before .before .before .before .args in
-    rw (eq-eqb _ _ (c .before .if1 .taken), c .u16-or-zero .ensures, or-zero-is 2 (args .bytes .now) (args .at) (omega arith))
+    let number = c .before in
+    let args = number .before .before .before .before .args in
+    rw (
+      eq-eqb _ _ (number .before .if1 .taken),
+      number .u16-or-zero .ensures,
+      c .u16-or-zero2 .ensures,
+      or-zero-is 2 (args .bytes .now) (args .at) (omega arith),
+      or-zero-is 2 (args .bytes .now) (args .at + 2) (omega arith),
+    )
 
 raw-host-address-requires : tie.Need-raw-host-address-requires
 raw-host-address-requires c κs =
@@ -29,7 +37,7 @@ pub read-spec : {M : Type 1} → statement M
 read-spec =
     tie.close
     (tie.spec
-    (λ c κs. search needs) (λ c κs. search needs)
+    (λ c κs. search needs) (λ c κs. search needs) (λ c. search needs) (λ c κs. search needs)
     returns
     (λ c κs. search needs)
     raw-host-address-requires

@@ -8,11 +8,18 @@ use Rattle.packet_headers.proofs.ScionHeaders.new.Tie as tie
 returns : tie.Need-returns
 unfolding newHeaders
 returns c =
-    let args = c .before .before .args in
-    rw (c .before .encoded-length .ensures .0, c .path-length .ensures, factor-is (args .address) (args .path-type) (args .path-len))
+    let added = c .before in
+    let long = added .before in
+    let args = long .before .args in
+    rw (
+      long .encoded-length .ensures .0,
+      added .path-length .ensures,
+      factor-is (args .address) (args .path-type) (args .path-len),
+      c .without-padding .ensures,
+    )
 
 pub new-spec : {M : Type 1} → statement M
 new-spec =
     tie.close (tie.spec
-    (λ c κs. search needs) (λ c. search needs) (λ c κs. search needs) (λ c. search needs)
+    (λ c κs. search needs) (λ c. search needs) (λ c κs. search needs) (λ c. search needs) (λ c κs. search needs)
     returns)
