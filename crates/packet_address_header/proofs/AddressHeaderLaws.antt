@@ -67,7 +67,8 @@ length-rawOf (Decoded (Svc service)) bytes padding e = length-sets (replicate 16
 length-rawOf (Encoded kind) bytes padding e = e
 
 -- its bytes on the wire are the host's own
-wire-host : (h : MaybeEncoded) (bytes : List ℕ) (padding : ℕ) → take (hostLength (kindOf h)) (rawOf h bytes padding) ≡ hostBytesOf h bytes padding
+wire-host : (h : MaybeEncoded) (bytes : List ℕ) (padding : ℕ)
+    → take (hostLength (kindOf h)) (rawOf h bytes padding) ≡ hostBytesOf h bytes padding
 unfolding kindOf rawOf serviceBytes hostBytesOf hostLength bytesOf
 wire-host (Decoded V4) bytes padding = refl
 wire-host (Decoded V6) bytes padding = refl

@@ -14,7 +14,7 @@ use borrow.Author.Tests.{eqb-true}
 use Rattle.wire_encoding.specs.BigEndian.{bigEndian, bytesOf, part}
 use Rattle.wire_encoding.proofs.Lists.{Bytes, length-part, part-join}
 use Rattle.wire_encoding.proofs.BigEndian.{length-bytesOf, below, bytes-read, read-bytesOf}
-use Rattle.address.specs.declared.host.HostAddr.the-variants.{V4, V6, Svc}
+use Rattle.address.specs.declared.host.HostAddr.the-variants.{V4, V6}
 use Rattle.packet_common_header.specs.CommonHeader.{hostLength}
 use Rattle.packet_address_header.specs.AddressHeader.{kindOf, hostOfKind, padded, serviceHost, hostAt, hostBytesOf, hostBytes}
 use Rattle.packet_address_header.specs.declared.MaybeEncoded.the-variants.{Decoded, Encoded}

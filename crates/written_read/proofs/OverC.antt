@@ -1,20 +1,17 @@
 -- A host that was read is handed to C and taken back as it is, so the headers that C copies are those of the packet.
 -- Assumes nothing.
-use mathlib.Core.Path.{_≡_, refl, ap, ap₂, _∙_}
+use mathlib.Core.Path.{_≡_, refl}
 use mathlib.Core.Bool.{Bool, true, false}
 use mathlib.Core.List.{List}
-use Prim.Native.Nat.{ℕ, _+_, _-_, min}
-use lib.ListN.{length}
+use Prim.Native.Nat.{ℕ, _+_}
 use lib.Dec.{eqb}
 use Rattle.wire_encoding.specs.Result.{ok}
 use Rattle.wire_encoding.proofs.Lists.{Bytes}
-use Rattle.packet_common_header.specs.CommonHeader.{headerLength, hostLength}
+use Rattle.packet_common_header.specs.CommonHeader.{hostLength}
 use Rattle.packet_address_header.specs.AddressHeader.{kindOf, hostAt, addressAt}
-use Rattle.packet_address_header.specs.declared.AddressHeader.{AddressHeader}
 use Rattle.packet_address_header.proofs.AddressHeaderLaws.{kind-of-kind}
-use Rattle.packet.specs.Raw.{Packet, readPacket, packetAnswer, payloadPart}
+use Rattle.packet.specs.Raw.{Packet, packetAnswer}
 use Rattle.packet.proofs.RawLaws.{Split, split, parts-of-the-packet}
-use Rattle.packet_headers.specs.Headers.{writeHeaders}
 use Rattle.scion_packets.specs.Packets.{hostOut, hostIn, addressIn, packetOut, headersIn}
 use Rattle.written_read.specs.WrittenRead.{headersOf}
 use Rattle.written_read.specs.OverC.{headersAgain, WritesAgainOverC}
@@ -40,8 +37,8 @@ address-back bytes destination source = rw (host-back destination bytes 16, host
 -- ALL HEADERS
 
 module _ (bytes : List ℕ) (b : Bytes bytes) (p : Packet) (s : Split bytes p) where
-  ends-back : addressIn (p .address .«destination_ia» .0) (hostOut (p .address .destination)) (p .address .«source_ia» .0) (hostOut (p .address .source))
-      ≡ p .address
+  ends-back : let a = p .address in
+      addressIn (a .«destination_ia» .0) (hostOut (a .destination)) (a .«source_ia» .0) (hostOut (a .source)) ≡ a
   ends-back = rw (address-was bytes b p s .header) (address-back _ _ _)
 
   headers-back : headersIn (headersAgain (packetOut (packetAnswer (ok p)))) ≡ headersOf p
@@ -51,4 +48,5 @@ module _ (bytes : List ℕ) (b : Bytes bytes) (p : Packet) (s : Split bytes p) w
 pub writes-again-over-c : WritesAgainOverC
 unfolding packetOut packetAnswer
 writes-again-over-c bytes p small read =
-    rw (parts-of-the-packet bytes p read .0, read, headers-back bytes (λ i. record { fits = small i }) p (split bytes read)) (writes-again bytes p small read)
+    let b : Bytes bytes = λ i. record { fits = small i } in
+    rw (parts-of-the-packet bytes p read .0, read, headers-back bytes b p (split bytes read)) (writes-again bytes p small read)

@@ -20,7 +20,8 @@ there = 0x00 ∷ 0x02 ∷ 0xFF ∷ 0x00 ∷ 0x00 ∷ 0x00 ∷ 0x02 ∷ 0x20 ∷ 
 -- no path and no payload, 36 bytes: these host kinds, destination network, source network, destination and source
 unfoldable pub smallest : ℕ → List ℕ → List ℕ → List ℕ → List ℕ → List ℕ
 smallest kinds to from destination source =
-    (0x00 ∷ 0x00 ∷ 0x00 ∷ 0x01 ∷ 0x11 ∷ 0x09 ∷ 0x00 ∷ 0x00 ∷ 0x00 ∷ kinds ∷ 0x00 ∷ 0x00 ∷ []) ++ to ++ from ++ destination ++ source
+    (0x00 ∷ 0x00 ∷ 0x00 ∷ 0x01 ∷ 0x11 ∷ 0x09 ∷ 0x00 ∷ 0x00 ∷ 0x00 ∷ kinds ∷ 0x00 ∷ 0x00 ∷ [])
+    ++ to ++ from ++ destination ++ source
 
 -- to service 2 with padding BEEF, and from service 8002 with padding 0001
 unfoldable pub toService : List ℕ

@@ -1,10 +1,11 @@
 -- `HostAddress::read` meets its contract: kind 4 is a service, any other keeps its bytes.
+use mathlib.Core.Path.{ap₂, _∙_}
 use Prim.Native.Nat.{_+_}
 use borrow.Author.Tests.{eq-eqb, ne-eqb}
 use native.Mathlib.Omega.{arith}
 use Rattle.wire_encoding.proofs.BigEndian.{or-zero-is}
 use Rattle.packet_common_header.specs.CommonHeader.{hostLength}
-use Rattle.packet_address_header.specs.AddressHeader.{hostAt}
+use Rattle.packet_address_header.specs.AddressHeader.{serviceHost, hostAt}
 use borrow.Author.Needs.{needs}
 use Rattle.packet_address_header.proofs.HostAddress.read.Statement.{statement}
 use Rattle.packet_address_header.proofs.HostAddress.read.Tie as tie
@@ -14,13 +15,9 @@ unfolding hostAt hostLength
 returns c =
     let number = c .before in
     let args = number .before .before .before .before .args in
-    rw (
-      eq-eqb _ _ (number .before .if1 .taken),
-      number .u16-or-zero .ensures,
-      c .u16-or-zero2 .ensures,
-      or-zero-is 2 (args .bytes .now) (args .at) (omega arith),
-      or-zero-is 2 (args .bytes .now) (args .at + 2) (omega arith),
-    )
+    let first = number .u16-or-zero .ensures ∙ or-zero-is 2 (args .bytes .now) (args .at) (omega arith) in
+    let second = c .u16-or-zero2 .ensures ∙ or-zero-is 2 (args .bytes .now) (args .at + 2) (omega arith) in
+    rw (eq-eqb _ _ (number .before .if1 .taken)) (ap₂ serviceHost first second)
 
 raw-host-address-requires : tie.Need-raw-host-address-requires
 raw-host-address-requires c κs =
