@@ -167,7 +167,7 @@ impl MaybeEncoded {
     }
 
     // A host of a kind that is no service: IPv4, IPv6, or one without a name.
-    pub fn of_kind(kind: u8) -> MaybeEncoded
+    fn of_kind(kind: u8) -> MaybeEncoded
         ensures { λ r. ⌜ r ≡ spec.hostOfKind kind ⌝ }
     {
         if kind == 0 {
@@ -217,19 +217,6 @@ impl HostAddress {
             host,
             bytes: raw,
             padding: 0,
-        }
-    }
-
-    // The same host with this padding.
-    fn with_padding(self, padding: u16) -> HostAddress
-        ensures { λ r. ⌜ r ≡ spec.withPadding self padding ⌝ }
-    {
-        let host = self.host;
-        let bytes = self.bytes;
-        HostAddress {
-            host,
-            bytes,
-            padding,
         }
     }
 
@@ -337,14 +324,10 @@ impl AddressHeader {
     pub fn without_padding(self) -> AddressHeader
         ensures { λ r. ⌜ r ≡ spec.withoutPadding self ⌝ }
     {
-        let destination_ia = self.destination_ia;
-        let source_ia = self.source_ia;
-        AddressHeader {
-            destination_ia,
-            source_ia,
-            destination: self.destination.with_padding(0),
-            source: self.source.with_padding(0),
-        }
+        let mut header = self;
+        header.destination.padding = 0;
+        header.source.padding = 0;
+        header
     }
 
     // How many bytes the header has on the wire.

@@ -103,8 +103,22 @@ pub fn host_in(given: ScionHost) -> HostAddress
             padding: given.padding,
         };
     }
+    if kind == 0 {
+        return HostAddress {
+            host: MaybeEncoded::Decoded(HostAddr::V4),
+            bytes,
+            padding: 0,
+        };
+    }
+    if kind == 3 {
+        return HostAddress {
+            host: MaybeEncoded::Decoded(HostAddr::V6),
+            bytes,
+            padding: 0,
+        };
+    }
     HostAddress {
-        host: MaybeEncoded::of_kind(kind),
+        host: MaybeEncoded::Encoded(kind),
         bytes,
         padding: 0,
     }
