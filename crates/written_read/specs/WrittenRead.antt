@@ -112,7 +112,7 @@ RoundedDown =
 abbrev pub PaddingZero : HostAddress → List ℕ → ℕ → Type 0
 PaddingZero a bytes at = (service : ServiceAddr) → a .host ≡ Decoded (Svc service) → part (at + 2) 2 bytes ≡ 0 ∷ 0 ∷ []
 
--- they are written with padding zero at both ends, whatever padding the hosts have that they are made of
+-- new headers are written with padding zero at both ends, whatever padding the hosts have that they are made of
 abbrev pub NewHeadersPadding : Type 0
 NewHeadersPadding =
     (a : AddressHeader) (type : ℕ) (path : List ℕ) (next payload flow size : ℕ) (written : List ℕ) → length (a .destination .bytes) ≡ 16
