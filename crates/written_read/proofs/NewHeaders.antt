@@ -32,6 +32,8 @@ use Rattle.packet_headers.specs.declared.ScionHeaders.{ScionHeaders}
 use Rattle.packet_headers.proofs.Headers.{known}
 use Rattle.written_read.specs.WrittenRead.{ReadWhole, NewHeadersFull, NewHeadersFill, PaddingZero, NewHeadersPadding, RoundedDown}
 
+-- THEIR LENGTH
+
 pub new-headers-full : NewHeadersFull
 unfolding newHeaders headersLength addressLength lengthOfKinds hostLength
 new-headers-full a type n next payload flow = (λ four. omega arith, λ full. omega arith)
@@ -56,6 +58,16 @@ new-headers-fill a type path stored next payload flow few read = record {
   full = rw (length-without-padding a) (new-headers-full a type (length path) next payload flow .0 (added-four type path few read));
   path-read = read;
 }
+
+pub rounded-down : RoundedDown
+unfolding bigEndian bytesOf readDataplane readPacket
+    common.commonAt common.readCommon common.headerLength common.hostLength common.fieldsFit common.commonFits common.commonBytes
+    address.kindOf address.hostOfKind address.padded address.hostAt address.lengthOfKinds address.addressLength address.addressAt
+    address.withoutPadding address.withPadding address.readAddress address.zeroAddress address.hostBytesOf address.hostBytes address.addressBytes
+    addedLength addedBytes headersLength newHeaders commonOf headerBytes writeHeaders
+rounded-down = (refl, refl, refl, refl)
+
+-- THEIR PADDING
 
 -- two zeros that stand where they are said to
 zeros-there : (before after : List ℕ) (at : ℕ) → length before ≡ at → part at 2 (before ++ (0 ∷ 0 ∷ after)) ≡ 0 ∷ 0 ∷ []
@@ -120,11 +132,3 @@ new-headers-padding a type path next payload flow size written sixteen done =
     let same : written ≡ headerBytes (newHeaders a type (length path) next payload flow) path =
     same-value (sym done ∙ known (newHeaders a type (length path) next payload flow) path size done .result) in
     rw same (destination-zero a type path next payload flow sixteen, source-zero a type path next payload flow sixteen)
-
-pub rounded-down : RoundedDown
-unfolding bigEndian bytesOf readDataplane readPacket
-    common.commonAt common.readCommon common.headerLength common.hostLength common.fieldsFit common.commonFits common.commonBytes
-    address.kindOf address.hostOfKind address.padded address.hostAt address.lengthOfKinds address.addressLength address.addressAt
-    address.withoutPadding address.withPadding address.readAddress address.zeroAddress address.hostBytesOf address.hostBytes address.addressBytes
-    addedLength addedBytes headersLength newHeaders commonOf headerBytes writeHeaders
-rounded-down = (refl, refl, refl, refl)
