@@ -116,7 +116,7 @@ typedef struct {
 } ScionPart;
 
 /* A host: a service's number and no bytes, or the first 4 * (kind % 4 + 1) of `bytes` as they are on the wire, the others zero.
- * `padding` is the two bytes that follow a service's number on the wire, 0 as a rule. Any other host has none: it is read as 0, and
+ * `padding` is the number in the two bytes that follow a service's number on the wire. Any other host has none: it is read as 0, and
  * not looked at when it is written. The field stands last, so that {kind, service, {bytes}} leaves it 0. */
 typedef struct {
     uint8_t kind;
