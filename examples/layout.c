@@ -37,6 +37,7 @@ AT(ScionPacket, next_header, 26); AT(ScionPacket, header_length_factor, 27); AT(
 AT(ScionPacket, payload_length, 30); AT(ScionPacket, reserved, 32); AT(ScionPacket, flow_id, 36);
 AT(ScionPacket, destination_ia, 40); AT(ScionPacket, source_ia, 48); AT(ScionPacket, destination, 56); AT(ScionPacket, source, 78);
 AT(ScionPacket, path_part, 104); AT(ScionPacket, payload_part, 120);
+SIZE(ScionCapture, 144); AT(ScionCapture, packet, 0); AT(ScionCapture, is_short, 136);
 SIZE(ScionHeaders, 96); AT(ScionHeaders, version, 0); AT(ScionHeaders, traffic_class, 1); AT(ScionHeaders, next_header, 2);
 AT(ScionHeaders, path_type, 3); AT(ScionHeaders, reserved, 4); AT(ScionHeaders, flow_id, 8);
 AT(ScionHeaders, header_length_factor, 16); AT(ScionHeaders, payload_length, 24); AT(ScionHeaders, destination_ia, 32);
@@ -154,6 +155,33 @@ static void service_padding(void) {
     CHECK(p.answer.number == 0 && is_host(p.destination, 0, 0, packet + 28, 4, 0) && is_host(p.source, 4, 0x8002, none, 16, 1));
 }
 
+/* A packet with fewer bytes than its headers say is refused, right after the factor; as a capture it is read, and short. */
+static void short_capture(void) {
+    uint8_t packet[40] = {0x07, 0x61, 0x23, 0x45, 0x11, 9, 0, 0, 0, 0, 0x5A, 0xA5, [12] = 1, [19] = 2, [20] = 3, [27] = 4,
+        [28] = 6, 7, 8, 9, 10, 11, 12, 13, 14, 15, 16, 17};
+    uint8_t dst[36];
+    CHECK(scion_read_packet(packet, 36).answer.number == 0);
+    ScionCapture c = scion_read_capture(packet, 36);
+    CHECK(c.packet.answer.number == 0 && !c.is_short);
+    packet[5] = 10;
+    CHECK(scion_read_packet(packet, 36).answer.number == SCION_CUT_SHORT);
+    c = scion_read_capture(packet, 36);
+    ScionPacket p = c.packet;
+    CHECK(c.is_short && p.answer.number == 0 && p.traffic_class == 0x76 && p.flow_id == 0x12345 && p.header_length_factor == 10
+        && p.reserved == 0x5AA5 && is_host(p.destination, 0, 0, packet + 28, 4, 0) && is_host(p.source, 0, 0, packet + 32, 4, 0)
+        && p.path_part.start == 36 && p.path_part.len == 0 && p.payload_part.start == 36 && p.payload_part.len == 0);
+    CHECK(scion_write_headers(again(p), NULL, 0, dst, 36).number == 0 && memcmp(dst, packet, 36) == 0);
+
+    /* Refused as a capture too, for another reason: not called short. */
+    c = scion_read_capture(packet, 39);
+    CHECK(c.packet.answer.number == SCION_LEFT_OVER_BYTES && !c.is_short && c.packet.header_length_factor == 0);
+    CHECK(scion_read_packet(packet, 39).answer.number == SCION_CUT_SHORT);
+    CHECK(scion_read_packet(packet, 40).answer.number == SCION_LEFT_OVER_BYTES);
+    packet[5] = 8;
+    CHECK(scion_read_packet(packet, 30).answer.number == SCION_FACTOR && scion_read_capture(packet, 30).packet.answer.value == 8);
+    CHECK(scion_read_capture(NULL, 0).packet.answer.number == SCION_CUT_SHORT && !scion_read_capture(NULL, 0).is_short);
+}
+
 int main(void) {
     static uint8_t b[1000], path[1000], dst[2304];
     size_t len = build(path, 1, 2, 3, 2, 4);
@@ -261,6 +289,7 @@ int main(void) {
         && p.payload_part.start == 148 && p.payload_part.len == 0x32);
     CHECK(scion_write_headers(again(p), b + 48, len, dst, 148).number == 0 && memcmp(dst, b, 148) == 0);
     service_padding();
+    short_capture();
     h.version = 5;
     CHECK(scion_write_headers(h, path, len, b, 148).number == 0 && b[0] == 0x54);
     a = scion_read_packet(b, 200).answer;

@@ -17,7 +17,8 @@
  * The calls keep nothing between them and share nothing, so threads may call at the same time on bytes that none of them changes.
  *
  * Numbers in structs are the machine's own; on the wire they are big-endian, which the library sees to. `start` of a field or part
- * counts from the first byte of what was handed to that call: the packet for scion_read_packet, the path for all others.
+ * counts from the first byte of what was handed to that call: the packet for scion_read_packet and scion_read_capture, the path for
+ * all others.
  */
 #ifndef SCION_PROTO_H
 #define SCION_PROTO_H
@@ -27,7 +28,7 @@
 #include <stdint.h>
 
 /* Raised whenever a struct or a call changes. Header and archive have to be of one commit; examples/layout.c checks that they agree. */
-#define SCION_PROTO_VERSION 5
+#define SCION_PROTO_VERSION 6
 
 #ifdef __cplusplus
 extern "C" {
@@ -36,7 +37,7 @@ extern "C" {
 /* The answers. */
 enum {
     SCION_ACCEPTED = 0,
-    SCION_CUT_SHORT = 1,            /* too few bytes */
+    SCION_CUT_SHORT = 1,            /* too few bytes; of a packet, fewer than 4 * header_length_factor among others */
     SCION_VERSION = 2,              /* version not 0; value: the version */
     SCION_FACTOR = 3,               /* header length factor under 9 (read) or 0 (written); value: the factor */
     SCION_SEGMENT_LENGTHS = 4,      /* first length 0, or a length after a 0 */
@@ -213,7 +214,7 @@ typedef struct {
 } ScionWalk;
 
 /* A packet that was split: every value of its headers, and where its path and its payload lie in its bytes. The headers are
- * 4 * header_length_factor bytes long, traffic_class has 8 bits, flow_id 20. */
+ * 4 * header_length_factor bytes long (in a short capture what there is of them), traffic_class has 8 bits, flow_id 20. */
 typedef struct {
     ScionAnswer answer;
     ScionPath path;
@@ -233,6 +234,14 @@ typedef struct {
     ScionPart payload_part;
 } ScionPacket;
 
+/* A capture that was split, and whether it is short: whether it has fewer than 4 * header_length_factor bytes. Of a short one the
+ * addresses are whole, and so is a standard path; an opaque path is what there is of it, and there is no payload. A capture that was
+ * refused is not called short. */
+typedef struct {
+    ScionPacket packet;
+    bool is_short;
+} ScionCapture;
+
 /* The headers to be written; `scion_new_headers` fills in what follows from the rest. */
 typedef struct {
     uint8_t version;
@@ -249,8 +258,14 @@ typedef struct {
     ScionHost source;
 } ScionHeaders;
 
-/* Reading. Bytes after a packet's payload, and after a standard path, are no part of it; `length` is the path's own. */
+/* Reading. Bytes after a packet's payload, and after a standard path, are no part of it; `length` is the path's own.
+ *
+ * A station reads with scion_read_packet. It refuses a packet of fewer than 4 * header_length_factor bytes with 1, directly after
+ * the factor: before its addresses and its path are looked at. scion_read_capture is for packets on file, short ones among them: it
+ * answers as if there were no such test, and says whether the packet is short. Where scion_read_packet accepts, both answer the
+ * same. */
 ScionPacket scion_read_packet(const uint8_t *bytes, size_t len);
+ScionCapture scion_read_capture(const uint8_t *bytes, size_t len);
 ScionPathRead scion_read_path(uint8_t path_type, const uint8_t *bytes, size_t len);
 
 /* Views of a standard path. `index` counts info fields, hop fields, segments or interfaces from 0; 8 where there is none.

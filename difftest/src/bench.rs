@@ -107,19 +107,34 @@ fn over<T: 'static>(inputs: Vec<T>, mut call: impl FnMut(&T) + 'static) -> Loop 
     })
 }
 
-/// Packets split.
-fn packet_row(inputs: &Inputs) -> Loops {
-    let rust = over(kept(&inputs.packets), |bytes| {
+/// The Rust splitting packets.
+fn rust_packets(inputs: &Inputs) -> Loop {
+    over(kept(&inputs.packets), |bytes| {
         let mut bytes = bytes.clone();
         black_box(ScionPacketRaw::decode(&mut bytes)).expect("a packet that is read");
-    });
+    })
+}
+
+/// Packets split.
+fn packet_row(inputs: &Inputs) -> Loops {
     let plain = over(inputs.packets.clone(), |bytes| {
         black_box(plain::read_packet(bytes));
     });
     let ours = over(inputs.packets.clone(), |bytes| {
         black_box(calls::read_packet(bytes));
     });
-    Loops { rust: Some(rust), plain: Some(plain), ours }
+    Loops { rust: Some(rust_packets(inputs)), plain: Some(plain), ours }
+}
+
+/// Packets split by the capture reading.
+fn capture_row(inputs: &Inputs) -> Loops {
+    let plain = over(inputs.packets.clone(), |bytes| {
+        black_box(plain::read_capture(bytes));
+    });
+    let ours = over(inputs.packets.clone(), |bytes| {
+        black_box(calls::read_capture(bytes));
+    });
+    Loops { rust: Some(rust_packets(inputs)), plain: Some(plain), ours }
 }
 
 /// Packets split, and the expiry of their paths.
@@ -273,8 +288,9 @@ fn walk_row(inputs: &Inputs) -> Loops {
 type Maker = fn(&Inputs) -> Loops;
 
 /// The calls.
-const CALLS: [(&str, Maker); 10] = [
+const CALLS: [(&str, Maker); 11] = [
     ("packet decode", packet_row),
+    ("capture decode", capture_row),
     ("packet decode, then expiry", packet_expiry_row),
     ("path decode", path_row),
     ("path decode, then expiry", path_expiry_row),
@@ -298,7 +314,7 @@ const SIZES: [(&str, Lengths, u8); 4] = [
 const FEW: usize = 10;
 const MANY: usize = 64;
 
-/// All rows; moves only where they are not refused.
+/// All rows; moves only where they are not refused, and the capture reading of one shape.
 fn rows() -> Vec<Row> {
     let mut rows = Vec::new();
     for (call, make) in CALLS {
@@ -307,7 +323,8 @@ fn rows() -> Vec<Row> {
             let hop_fields = inputs.shape.hop_fields;
             let is_move = call == "single move" || call == "walk to the end";
             let is_last = call == "single move" && hop_fields == 1;
-            if (is_move && hop_fields > 64) || is_last {
+            let is_other = call == "capture decode" && hop_fields != FEW;
+            if (is_move && hop_fields > 64) || is_last || is_other {
                 continue;
             }
             rows.push(Row { call, size: String::from(size), hop_fields, loops: make(&inputs) });

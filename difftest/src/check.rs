@@ -279,12 +279,15 @@ impl Checker {
         self.record_of(&answer);
     }
 
-    /// A packet split, and written again where it is accepted.
+    /// A packet split by both readings, and written again where the capture reading accepts it; the Rust's packet.
     pub fn read_packet(&mut self, bytes: &[u8]) -> Packet {
         self.source.set(bytes);
         let packet = oracle::packet::read_packet(bytes);
         let input = Input { path_type: 0, bytes };
-        self.reading(Call::ReadPacket, input, "packet", (packet, Source::Rust), calls::read_packet);
+        let capture = (model::capture(packet, bytes), Source::Rust);
+        self.reading(Call::ReadCapture, input, "capture", capture, calls::read_capture);
+        let expected = oracle::packet::unless_cut(packet, bytes);
+        self.reading(Call::ReadPacket, input, "packet", expected, calls::read_packet);
         if packet.answer == ACCEPTED {
             self.write_again(&packet, bytes);
         }

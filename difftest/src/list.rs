@@ -8,6 +8,7 @@ use scion_proto::{Ends, Host};
 use crate::lines;
 use crate::model;
 use crate::random::Random;
+use crate::samples::K36;
 use crate::shapes::{self, Lengths, PacketParts, Pointers};
 use crate::tally::hex;
 
@@ -34,6 +35,20 @@ impl Subject {
     fn call(&mut self, call: String) {
         let (answer, _) = lines::answer(&call).unwrap_or_else(|| panic!("the Rust can't be asked: {call}"));
         self.lines.push(format!("{call} =>{answer}"));
+    }
+
+    /// A packet by both readings.
+    fn packet(&mut self, bytes: &[u8]) {
+        for name in ["packet", "capture"] {
+            self.call(format!("{name} {}", word(bytes)));
+        }
+    }
+
+    /// The record of a packet's path, by both readings.
+    fn packet_record(&mut self, bytes: &[u8]) {
+        for name in ["recordpacket", "recordcapture"] {
+            self.call(format!("{name} {}", word(bytes)));
+        }
     }
 }
 
@@ -452,13 +467,12 @@ fn moves() -> Subject {
 /// Packets of every answer.
 fn packets(random: &mut Random) -> Subject {
     let mut subject = Subject::new("packets");
-    let k36 = "0000000111090000000000000001ff00000001100002ff0000000220d0d1d2d350515253";
+    let base = lines::parse_bytes(K36);
     subject.note("A smallest packet, cut at every byte.");
     for length in 0..=36 {
-        subject.call(format!("packet {}", if length == 0 { "-" } else { &k36[..2 * length] }));
+        subject.packet(&base[..length]);
     }
     subject.note("Every version, factor and payload length beside the border.");
-    let base = lines::parse_bytes(k36);
     for (place, values) in
         [(0, [0x10, 0xf0, 0x0f, 0x20]), (5, [0, 8, 10, 255]), (7, [1, 2, 255, 0]), (8, [1, 2, 255, 4])]
     {
@@ -466,20 +480,16 @@ fn packets(random: &mut Random) -> Subject {
             for more in [0, 1, 2, 4] {
                 let mut bytes = [&base[..], &vec![0xdd; more]].concat();
                 bytes[place] = value;
-                subject.call(format!("packet {}", word(&bytes)));
+                subject.packet(&bytes);
             }
         }
     }
     subject.note("Every pair of host kinds, with an empty, a standard and an opaque path in turn.");
     for kinds in 0..=255u8 {
         let path_type = kinds % 3;
-        let path = match path_type {
-            0 => Vec::new(),
-            1 => sample([1, 0, 0], 1, 0, 0),
-            _ => vec![1, 2, 3, 4],
-        };
+        let path = path_of_type(path_type);
         let bytes = shapes::packet_of(random, &PacketParts { kinds, path_type, path, payload: 1 });
-        subject.call(format!("packet {}", word(&bytes)));
+        subject.packet(&bytes);
     }
     subject.note("Any packets, and damaged ones.");
     for _ in 0..120 {
@@ -490,7 +500,7 @@ fn packets(random: &mut Random) -> Subject {
         if random.flip() {
             shapes::damage(random, &mut bytes, 60);
         }
-        subject.call(format!("packet {}", word(&bytes)));
+        subject.packet(&bytes);
     }
     subject
 }
@@ -683,8 +693,8 @@ fn left_records(random: &mut Random, subject: &mut Subject) {
     for path_type in [0, 1, 1, 1, 2] {
         let path = if path_type == 0 { Vec::new() } else { sample([1, 1, 0], 1, random.below(2), 0) };
         let bytes = shapes::packet_of(random, &PacketParts { kinds: 0, path_type, path, payload: 1 });
-        subject.call(format!("recordpacket {}", word(&bytes)));
-        subject.call(format!("recordpacket {}", word(&bytes[..bytes.len() - 1])));
+        subject.packet_record(&bytes);
+        subject.packet_record(&bytes[..bytes.len() - 1]);
     }
 }
 
@@ -811,7 +821,7 @@ fn refused_padding(subject: &mut Subject) {
     let address = padded_address(&ends);
     for length in 16..address.len() {
         subject.call(format!("address 4 4 {}", hex(&address[..length])));
-        subject.call(format!("packet 000000011109000000440000{}", hex(&address[..length])));
+        subject.packet(&[&lines::parse_bytes("000000011109000000440000"), &address[..length]].concat());
     }
     let words = ends_words(&ends);
     for (flow, factor, payload, size) in
@@ -852,12 +862,20 @@ fn padded_address(ends: &Ends) -> Vec<u8> {
     bytes
 }
 
+/// Headers of these ends and this path: a packet without a payload.
+fn headers_alone(ends: &Ends, path_type: u8, path: &[u8]) -> Vec<u8> {
+    let address = padded_address(ends);
+    let factor = (12 + address.len() + path.len()) / 4;
+    let kinds = ends.destination.kind << 4 | ends.source.kind;
+    let common = [0x0a, 0xb1, 0x23, 0x45, 0x11, factor as u8, 0, 0, path_type, kinds, 0xab, 0xcd];
+    [&common[..], &address, path].concat()
+}
+
 /// A packet and an address header with these paddings read, and then written.
 fn padded(subject: &mut Subject, kinds: u8, paddings: [u16; 2]) {
     let ends = padded_ends(kinds, paddings);
     let address = padded_address(&ends);
-    let factor = (12 + address.len()) / 4;
-    subject.call(format!("packet 0ab1234511{factor:02x}000000{kinds:02x}abcd{}", hex(&address)));
+    subject.packet(&headers_alone(&ends, 0, &[]));
     subject.call(format!("address {} {} {}", kinds >> 4, kinds & 15, hex(&address)));
     write_padded(subject, &ends);
 }
@@ -869,6 +887,100 @@ fn write_padded(subject: &mut Subject, ends: &Ends) {
     subject.call(format!("putaddress {words} {alone}"));
     subject.call(format!("write 0 171 74565 17 {} 0 0 43981 {words} - {whole}", (12 + length) / 4));
     subject.call(format!("new 17 0 74565 0 {words} - {whole}"));
+}
+
+/// Packets beside as many bytes as their headers take by the factor, by request 2026-06: refused, and read as captures.
+fn short_headers() -> Subject {
+    let mut subject = Subject::new("short");
+    subject.note("A smallest packet under several factors: alone, then with zeros to one byte fewer than the factor's, and to all.");
+    for factor in [9, 10, 11, 12, 18, 63, 64, 65, 127, 128, 129, 254, 255] {
+        let exact = 4 * usize::from(factor);
+        for length in [36, exact - 1, exact] {
+            subject.packet(&smallest(&[(5, factor)], length));
+        }
+    }
+    subject.note("Every kind of host at either end, and each sort of path: just the factor's bytes, and beside that.");
+    for kind in 0..16 {
+        for (kinds, path_type) in [(kind << 4, [0, 1, 2, 255]), (kind, [255, 0, 1, 2])] {
+            beside_factor(&mut subject, kinds, path_type[usize::from(kind % 4)]);
+        }
+    }
+    subject.note("Cut at every byte of the path, and under a factor that is too large, with a payload and without.");
+    for path_type in [0, 1, 2, 255] {
+        let whole = headers_alone(&padded_ends(0, [0, 0]), path_type, &path_of_type(path_type));
+        for (more, payload) in [(0, 0), (0, 1), (1, 0), (1, 1)] {
+            let mut bytes = [&whole[..], &[0x77; 5]].concat();
+            bytes[5] += more;
+            bytes[7] = payload;
+            (36..=bytes.len()).for_each(|length| subject.packet(&bytes[..length]));
+        }
+    }
+    refused_packets(&mut subject);
+    subject
+}
+
+/// A smallest packet with bytes set, and zeros after it or cut.
+fn smallest(edits: &[(usize, u8)], length: usize) -> Vec<u8> {
+    let mut bytes = lines::parse_bytes(K36);
+    edits.iter().for_each(|(place, byte)| bytes[*place] = *byte);
+    bytes.resize(length, 0);
+    bytes
+}
+
+/// The bytes of a small path of a type.
+fn path_of_type(path_type: u8) -> Vec<u8> {
+    match path_type {
+        0 => Vec::new(),
+        1 => sample([1, 0, 0], 1, 0, 0),
+        _ => vec![1, 2, 3, 4],
+    }
+}
+
+/// Headers of these kinds and a path of a type: under their factor and under one that is too large, all bytes, one fewer and
+/// one more, and with a payload; and the records of their path.
+fn beside_factor(subject: &mut Subject, kinds: u8, path_type: u8) {
+    let whole = headers_alone(&padded_ends(kinds, [0xbeef, 1]), path_type, &path_of_type(path_type));
+    let exact = whole.len();
+    for more in [0, 1] {
+        let mut bytes = [&whole[..], &[0x77]].concat();
+        bytes[5] += more;
+        [exact - 1, exact, exact + 1].iter().for_each(|length| subject.packet(&bytes[..*length]));
+        if path_type == 1 {
+            subject.packet_record(&bytes[..exact]);
+        }
+        bytes[7] = 1;
+        subject.packet(&bytes);
+    }
+}
+
+/// Refusals of packets that have all the bytes of their factor, and of ones that have not.
+fn refused_packets(subject: &mut Subject) {
+    subject.note("Versions and factors that are refused first, with all of the factor's bytes and with fewer.");
+    for length in [12, 30, 31, 32, 35, 36, 40] {
+        for first in [0x10, 0xf0] {
+            subject.packet(&smallest(&[(0, first)], length));
+            subject.packet(&smallest(&[(0, first), (5, 10)], length));
+        }
+        for factor in 0..9 {
+            subject.packet(&smallest(&[(5, factor)], length));
+        }
+    }
+    subject
+        .note("Paths that are refused: the capture reading has their number also with fewer bytes than the factor's.");
+    for meta in ["00002001", "40002000", "02002000", "00002000", "000020"] {
+        for factor in [9, 10, 11, 255] {
+            for payload in [0, 1] {
+                let packet = smallest(&[(5, factor), (7, payload), (8, 1)], 36);
+                subject.packet(&[&packet[..], &lines::parse_bytes(meta)].concat());
+            }
+        }
+    }
+    subject.note("Bytes that were sent as a payload are the headers' first.");
+    for (payload, length) in [(4, 40), (1, 36), (1, 40), (4, 44), (0, 39), (0, 40)] {
+        for path_type in [0, 1, 2, 255] {
+            subject.packet(&smallest(&[(5, 10), (7, payload), (8, path_type)], length));
+        }
+    }
 }
 
 /// Writes a subject's lines to files of at most so many bytes; how many files and lines.
@@ -902,6 +1014,7 @@ fn subjects() -> Vec<Subject> {
         runs(&mut random),
         records(&mut random),
         padding(),
+        short_headers(),
     ]
 }
 

@@ -86,6 +86,7 @@ fn run_borders(checker: &mut Checker, random: &mut Random) {
     part(checker, "paths with every byte", |checker| paths::every_byte(checker, random));
     part(checker, "packets of every kind", |checker| packets::every_kind(checker, random));
     part(checker, "packets of every type and factor", |checker| packets::every_type_and_factor(checker, random));
+    part(checker, "packets of every sort of meta header", |checker| packets::every_meta(checker, random));
     part(checker, "packets of every padding", |checker| packets::every_padding(checker, random));
     part(checker, "packets cut at every byte", |checker| packets::every_cut(checker, random));
     part(checker, "largest packets", |checker| packets::largest(checker, random));

@@ -1,17 +1,21 @@
 //! Document 01's rules for what the Rust lacks or leaves open, written from its text alone: moves, walks,
 //! accumulators by a path alone, when a path expires that a move left, the times of a record (request 2026-01), the
-//! interfaces of a peering path (request 2026-03), the padding of a service (request 2026-05), what an end holds after an
-//! arrival (request 2026-08), and the writing of headers that the Rust can't build.
+//! interfaces of a peering path (request 2026-03), the padding of a service (request 2026-05), packets with fewer bytes than
+//! their headers take (request 2026-06), what an end holds after an arrival (request 2026-08), and the writing of headers
+//! that the Rust can't build.
 
 use std::cell::Cell;
 
-use scion_proto::{Answer, Ends, Headers, Host, Interface, InterfaceCount, Path, PathAnswer, TimeLeft, Walk};
+use scion_proto::{
+    Answer, Capture, Ends, Headers, Host, Interface, InterfaceCount, Packet, Path, PathAnswer, TimeLeft, Walk,
+};
 
+use crate::oracle::packet::read_packet;
 use crate::oracle::path::{LATEST_NOW, Oracle};
 use crate::oracle::{ACCEPTED, Refused, refusal};
 
-/// A plausible wrong rule of moving, of interfaces, of times, of arrivals or of padding, put in the right one's place to
-/// see that the run's inputs tell them apart.
+/// A plausible wrong rule of moving, of interfaces, of times, of arrivals, of padding or of short packets, put in the right
+/// one's place to see that the run's inputs tell them apart.
 #[derive(Debug, Clone, Copy, PartialEq)]
 pub enum Twist {
     None,
@@ -60,10 +64,20 @@ pub enum Twist {
     PaddingOfAnyHostIsWritten,
     PaddingIsWrittenTurned,
     NewHeadersKeepThePadding,
+    ShortIsTestedBeforeTheVersion,
+    ShortIsTestedBeforeTheFactor,
+    ShortIsTestedLast,
+    JustEnoughIsCut,
+    PayloadIsCountedAsHeader,
+    CommonHeaderIsNotCounted,
+    JustEnoughIsShort,
+    ShortIsToldOnARefusal,
+    ShortIsNeverTold,
+    ShortCaptureIsRefused,
 }
 
 /// All the wrong rules.
-pub const TWISTS: [Twist; 45] = [
+pub const TWISTS: [Twist; 55] = [
     Twist::OwnerIsAlwaysTheFirst,
     Twist::OwnerIsAlwaysTheNext,
     Twist::PeeringSparesEveryOwner,
@@ -109,6 +123,16 @@ pub const TWISTS: [Twist; 45] = [
     Twist::PaddingOfAnyHostIsWritten,
     Twist::PaddingIsWrittenTurned,
     Twist::NewHeadersKeepThePadding,
+    Twist::ShortIsTestedBeforeTheVersion,
+    Twist::ShortIsTestedBeforeTheFactor,
+    Twist::ShortIsTestedLast,
+    Twist::JustEnoughIsCut,
+    Twist::PayloadIsCountedAsHeader,
+    Twist::CommonHeaderIsNotCounted,
+    Twist::JustEnoughIsShort,
+    Twist::ShortIsToldOnARefusal,
+    Twist::ShortIsNeverTold,
+    Twist::ShortCaptureIsRefused,
 ];
 
 thread_local! {
@@ -477,6 +501,46 @@ fn padding(kind: u8, bytes: &[u8]) -> u16 {
         _ if kind == 4 => number,
         _ => 0,
     }
+}
+
+/// How many bytes the headers of a packet take, by the factor in its common header: 4 × factor.
+fn bytes_by_factor(bytes: &[u8]) -> usize {
+    4 * usize::from(bytes[5])
+}
+
+/// Whether a packet gets 1 directly after the factor test: it has passed the tests until there, and has fewer bytes than
+/// 4 × its factor.
+pub fn is_cut(bytes: &[u8]) -> bool {
+    if bytes.len() < 12 {
+        return false;
+    }
+    let is_version = bytes[0] >> 4 == 0 || has(Twist::ShortIsTestedBeforeTheVersion);
+    let is_factor = bytes[5] >= 9 || has(Twist::ShortIsTestedBeforeTheFactor);
+    let is_tested = !has(Twist::ShortIsTestedLast) || read_packet(bytes).answer == ACCEPTED;
+    let more = match TWIST.get() {
+        Twist::JustEnoughIsCut => 1,
+        Twist::PayloadIsCountedAsHeader => u16::from_be_bytes([bytes[6], bytes[7]]).into(),
+        Twist::CommonHeaderIsNotCounted => 12,
+        _ => 0,
+    };
+    is_version && is_factor && is_tested && bytes.len() < bytes_by_factor(bytes) + more
+}
+
+/// Whether a capture with this answer is short: it is accepted, and has fewer bytes than 4 × its factor.
+fn is_short(answer: Answer, bytes: &[u8]) -> bool {
+    if answer != ACCEPTED && (bytes.len() < 12 || !has(Twist::ShortIsToldOnARefusal)) {
+        return false;
+    }
+    let more = usize::from(has(Twist::JustEnoughIsShort));
+    bytes.len() < bytes_by_factor(bytes) + more && !has(Twist::ShortIsNeverTold)
+}
+
+/// What the capture reading answers, where the Rust reads this packet from the bytes: the same, and whether it is short.
+pub fn capture(packet: Packet, bytes: &[u8]) -> Capture {
+    if has(Twist::ShortCaptureIsRefused) && is_cut(bytes) {
+        return Capture::refused(refusal(1));
+    }
+    Capture { packet, is_short: is_short(packet.answer, bytes).into() }
 }
 
 /// How many path bytes are written: none for type 0.

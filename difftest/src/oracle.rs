@@ -11,8 +11,8 @@ use std::panic::{AssertUnwindSafe, catch_unwind, set_hook, take_hook};
 
 use bytes::Bytes;
 use scion_proto::{
-    Answer, Expiry, HopField, InfoField, Interface, InterfaceCount, Packet, Path, PathAnswer, PathRead, Segment,
-    TimeLeft, Walk, WrittenPath,
+    Answer, Capture, Expiry, HopField, InfoField, Interface, InterfaceCount, Packet, Path, PathAnswer, PathRead,
+    Segment, TimeLeft, Walk, WrittenPath,
 };
 use scion_rs::packet::DecodeError;
 use scion_rs::path::standard::PathMetaHeader;
@@ -57,6 +57,12 @@ macro_rules! refused {
 
 refused! {
     PathAnswer PathRead WrittenPath InfoField HopField Segment Expiry TimeLeft InterfaceCount Interface Walk Packet
+}
+
+impl Refused for Capture {
+    fn refused(answer: Answer) -> Self {
+        Self { packet: Packet::refused(answer), is_short: 0 }
+    }
 }
 
 /// When the Rust's path expires by its own account, in ms since 1970.

@@ -94,7 +94,7 @@ pub fn exact_lengths(checker: &mut Checker, random: &mut Random, step: usize) {
 }
 
 /// Meta bytes at the borders of document 01's rules.
-const METAS: [[u8; 4]; 26] = [
+pub const METAS: [[u8; 4]; 26] = [
     [0x00, 0x00, 0x20, 0x00],
     [0x02, 0x00, 0x20, 0x00],
     [0x40, 0x00, 0x20, 0x00],

@@ -1,4 +1,4 @@
-/* What the benchmark's times are held to: six calls of scion_proto.h in plain C, by document 01's rules.
+/* What the benchmark's times are held to: seven calls of scion_proto.h in plain C, by document 01's rules.
  * The benchmark holds their answers to the library's before it times them. */
 #include "scion_proto.h"
 
@@ -177,42 +177,52 @@ static ScionHost read_host(uint8_t kind, const uint8_t *at) {
     return host;
 }
 
-static ScionPacket refused_packet(uint8_t number, uint8_t value) {
-    return (ScionPacket){.answer = {number, value}};
+static ScionPacket refused_packet(uint8_t number) {
+    return (ScionPacket){.answer.number = number};
 }
 
-ScionPacket plain_read_packet(const uint8_t *bytes, size_t len) {
+/* What reading a packet answers up to the factor test. */
+static inline ScionAnswer check_common(const uint8_t *bytes, size_t len) {
     if (len == 0) {
-        return refused_packet(SCION_CUT_SHORT, 0);
+        return (ScionAnswer){SCION_CUT_SHORT, 0};
     }
     if (bytes[0] >> 4 != 0) {
-        return refused_packet(SCION_VERSION, bytes[0] >> 4);
+        return (ScionAnswer){SCION_VERSION, bytes[0] >> 4};
     }
     if (len < COMMON) {
-        return refused_packet(SCION_CUT_SHORT, 0);
+        return (ScionAnswer){SCION_CUT_SHORT, 0};
     }
+    if (bytes[5] < 9) {
+        return (ScionAnswer){SCION_FACTOR, bytes[5]};
+    }
+    return (ScionAnswer){SCION_ACCEPTED, 0};
+}
+
+static inline bool is_short(const uint8_t *bytes, size_t len) {
+    return len < 4 * (size_t)bytes[5];
+}
+
+/* A packet whose common header is past the factor test. It is part of both readings, so that neither pays for a call. */
+static inline __attribute__((always_inline)) ScionPacket read_rest(const uint8_t *bytes, size_t len) {
     uint8_t factor = bytes[5];
-    if (factor < 9) {
-        return refused_packet(SCION_FACTOR, factor);
-    }
     size_t header_end = 4 * (size_t)factor < len ? 4 * (size_t)factor : len;
     uint8_t destination_kind = bytes[9] >> 4, source_kind = bytes[9] & 15;
     size_t source_at = COMMON + NETWORKS + host_length(destination_kind);
     size_t path_at = source_at + host_length(source_kind);
     if (header_end < path_at) {
-        return refused_packet(SCION_CUT_SHORT, 0);
+        return refused_packet(SCION_CUT_SHORT);
     }
     uint8_t path_type = bytes[8];
     ScionPathRead path = plain_read_path(path_type, bytes + path_at, header_end - path_at);
     if (path.answer.number != SCION_ACCEPTED) {
-        return refused_packet(path.answer.number, 0);
+        return refused_packet(path.answer.number);
     }
     if (path_at + path.length != header_end) {
-        return refused_packet(SCION_LEFT_OVER_BYTES, 0);
+        return refused_packet(SCION_LEFT_OVER_BYTES);
     }
     uint16_t payload_length = get16(bytes + 6);
     if (len - header_end < payload_length) {
-        return refused_packet(SCION_CUT_SHORT, 0);
+        return refused_packet(SCION_CUT_SHORT);
     }
     uint32_t first = get32(bytes);
     return (ScionPacket){
@@ -231,6 +241,29 @@ ScionPacket plain_read_packet(const uint8_t *bytes, size_t len) {
         .path_part = {path_at, path.length},
         .payload_part = {header_end, payload_length},
     };
+}
+
+ScionPacket plain_read_packet(const uint8_t *bytes, size_t len) {
+    ScionAnswer answer = check_common(bytes, len);
+    if (answer.number != SCION_ACCEPTED) {
+        return (ScionPacket){.answer = answer};
+    }
+    if (is_short(bytes, len)) {
+        return refused_packet(SCION_CUT_SHORT);
+    }
+    return read_rest(bytes, len);
+}
+
+ScionCapture plain_read_capture(const uint8_t *bytes, size_t len) {
+    ScionAnswer answer = check_common(bytes, len);
+    if (answer.number != SCION_ACCEPTED) {
+        return (ScionCapture){.packet.answer = answer};
+    }
+    ScionPacket packet = read_rest(bytes, len);
+    if (packet.answer.number != SCION_ACCEPTED) {
+        return (ScionCapture){.packet.answer = packet.answer};
+    }
+    return (ScionCapture){packet, is_short(bytes, len)};
 }
 
 /* Writes a host of new headers, a service with zero padding; where it ends. */

@@ -2,7 +2,7 @@
 
 use std::fmt::Debug;
 
-use scion_proto::{Answer, Answered, Ends, Expiry, Host, Packet, Path, PathRead, WrittenPath, calls};
+use scion_proto::{Answer, Answered, Capture, Ends, Expiry, Host, Packet, Path, PathRead, WrittenPath, calls};
 
 use crate::bench;
 use crate::plant::{self, Plant};
@@ -12,6 +12,7 @@ use crate::tally::{Call, hex};
 
 unsafe extern "C" {
     fn plain_read_packet(bytes: *const u8, len: usize) -> Packet;
+    fn plain_read_capture(bytes: *const u8, len: usize) -> Capture;
     fn plain_read_path(path_type: u8, bytes: *const u8, len: usize) -> PathRead;
     fn plain_expiry(path_type: u8, bytes: *const u8, len: usize) -> Expiry;
     fn plain_record_expiry(path: Path) -> u64;
@@ -35,6 +36,11 @@ unsafe extern "C" {
 /// `plain_read_packet`.
 pub fn read_packet(bytes: &[u8]) -> Packet {
     unsafe { plain_read_packet(bytes.as_ptr(), bytes.len()) }
+}
+
+/// `plain_read_capture`.
+pub fn read_capture(bytes: &[u8]) -> Capture {
+    unsafe { plain_read_capture(bytes.as_ptr(), bytes.len()) }
 }
 
 /// `plain_read_path`.
@@ -86,8 +92,15 @@ pub fn write_new_headers(
 }
 
 /// The calls that there are in plain C.
-pub const CALLS: [Call; 6] =
-    [Call::ReadPacket, Call::ReadPath, Call::Expiry, Call::RecordExpiry, Call::ReversePath, Call::WriteNewHeaders];
+pub const CALLS: [Call; 7] = [
+    Call::ReadPacket,
+    Call::ReadCapture,
+    Call::ReadPath,
+    Call::Expiry,
+    Call::RecordExpiry,
+    Call::ReversePath,
+    Call::WriteNewHeaders,
+];
 
 /// How many inputs of each sort are random.
 const RANDOM: usize = 2_000;
@@ -131,12 +144,14 @@ impl Held {
         self.hold(call, (plain, plain_dst), (ours, dst), input);
     }
 
-    /// A packet, and the expiry of its record.
+    /// A packet by both readings, and the expiry of its record.
     fn packet(&mut self, bytes: &[u8]) {
         let none = Vec::new;
         let ours = calls::read_packet(bytes);
         self.hold(Call::ReadPacket, (read_packet(bytes), none()), (ours, none()), bytes);
-        self.record(ours.path);
+        let ours = calls::read_capture(bytes);
+        self.hold(Call::ReadCapture, (read_capture(bytes), none()), (ours, none()), bytes);
+        self.record(ours.packet.path);
     }
 
     /// The expiry of a record.
@@ -181,7 +196,7 @@ impl Held {
     }
 }
 
-/// Holds plain C to the library on the inputs that are timed, and on random and damaged ones.
+/// Holds plain C to the library on the inputs that are timed, and on random, short and damaged ones.
 pub fn held(plant: Option<Plant>) -> Held {
     let mut held = Held { plant, ..Held::default() };
     let mut random = Random::new(91);
@@ -195,6 +210,9 @@ pub fn held(plant: Option<Plant>) -> Held {
     for _ in 0..RANDOM {
         let mut bytes = shapes::packet(&mut random);
         held.packet(&bytes);
+        let mut short = bytes.clone();
+        shapes::shorten(&mut random, &mut short);
+        held.packet(&short);
         let head = random.pick(&[12, 44, 60]);
         shapes::damage(&mut random, &mut bytes, head);
         held.packet(&bytes);

@@ -1,8 +1,8 @@
 //! Records alone: the times of those that calls hand back, and of those made by hand, which may hold any numbers.
 
 use scion_proto::{
-    Answer, Answered, Expiry, HopField, InfoField, Interface, InterfaceCount, Packet, Path, PathAnswer, PathRead,
-    Segment, TimeLeft, Walk, WrittenPath,
+    Answer, Answered, Capture, Expiry, HopField, InfoField, Interface, InterfaceCount, Packet, Path, PathAnswer,
+    PathRead, Segment, TimeLeft, Walk, WrittenPath,
 };
 
 use crate::check::Checker;
@@ -28,6 +28,12 @@ macro_rules! recorded {
 
 recorded! {
     PathAnswer PathRead WrittenPath InfoField HopField Segment Expiry TimeLeft InterfaceCount Interface Walk Packet
+}
+
+impl Recorded for Capture {
+    fn record(&self) -> Option<Path> {
+        Some(self.packet.path)
+    }
 }
 
 impl Recorded for Answer {

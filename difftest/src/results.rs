@@ -100,7 +100,7 @@ pub fn agree(checker: &mut Checker, input: Input, index: usize) {
         });
         c.tally.bytes(Call::ReversePath, &two, &one, || format!("results, type {kind} bytes {}", hex(bytes)));
     }
-    same(c, Call::ReadPacket, input, scion_proto::read_packet(bytes), calls::read_packet(bytes), |w| w);
+    packets_agree(c, bytes);
     let record = calls::read_path(kind, bytes).path;
     for record in [record, Path { expiry: MAX_EXPIRY, ..record }, Path { expiry: MAX_EXPIRY + 1, ..record }] {
         let words = || format!("result, {record:?}");
@@ -110,4 +110,11 @@ pub fn agree(checker: &mut Checker, input: Input, index: usize) {
             same(c, Call::RecordTimeLeft, input, record.time_left(now), whole, |w| w.ms);
         }
     }
+}
+
+/// Both readings of a packet, as a result and whole.
+pub fn packets_agree(checker: &mut Checker, bytes: &[u8]) {
+    let input = Input { path_type: 0, bytes };
+    same(checker, Call::ReadPacket, input, scion_proto::read_packet(bytes), calls::read_packet(bytes), |w| w);
+    same(checker, Call::ReadCapture, input, scion_proto::read_capture(bytes), calls::read_capture(bytes), |w| w);
 }

@@ -1,8 +1,8 @@
 //! Answers worked out by hand for packets, header writing, the times of records (request 2026-01), interfaces where
-//! peering is set (request 2026-03), the padding of services (request 2026-05), and copies and turns into destinations of
-//! any size (request 2026-08), held against the Rust, or the model where the Rust lacks the call or is excepted, and the
-//! library. Others for paths are the stored answers of the program that executes calls, which `replay` holds against the
-//! Rust.
+//! peering is set (request 2026-03), the padding of services (request 2026-05), packets with fewer bytes than their headers
+//! take (request 2026-06), and copies and turns into destinations of any size (request 2026-08), held against the Rust, or
+//! the model where the Rust lacks the call or is excepted, and the library. Others for paths are the stored answers of the
+//! program that executes calls, which `replay` holds against the Rust.
 
 use scion_proto::{Answer, Ends, Headers, Host, Interface, Packet, Part, Path, WrittenPath};
 
@@ -15,7 +15,7 @@ use crate::random::Random;
 use crate::shapes;
 
 /// The smallest packet: factor 9, type 0, IPv4 hosts, no payload.
-const K36: &str = "0000000111090000000000000001ff00000001100002ff0000000220d0d1d2d350515253";
+pub const K36: &str = "0000000111090000000000000001ff00000001100002ff0000000220d0d1d2d350515253";
 /// A standard path of two hop fields.
 const M1: &str = "000020000100111100000001000000000005a00bc1c2c3c40000000700000cd0e1e2e3e4";
 /// `M1` turned, and `M1` with a byte after it.
@@ -69,13 +69,22 @@ fn with_path(path_type: u8, path: &str, factor: u8, payload: u8, length: usize) 
     bytes
 }
 
-/// Reads a packet on both sides and hands back the Rust's answer.
+/// Reads a packet on both sides by both readings and hands back the Rust's answer, which is the capture reading's.
 fn read(checker: &mut Checker, bytes: &[u8]) -> Packet {
     checker.read_packet(bytes);
     packet::read_packet(bytes)
 }
 
-/// Rows of reading that say a number and a value.
+/// Holds a row for both readings: the refusing reading's answer, and the capture reading's with whether it is short.
+fn both(checker: &mut Checker, rows: &mut Rows, row: &str, bytes: &[u8], refusing: Answer, capture: (Answer, u8)) {
+    let rust = read(checker, bytes);
+    let (packet, _) = packet::unless_cut(rust, bytes);
+    rows.hold(&format!("{row}, refusing reading"), packet.answer, refusing);
+    let found = model::capture(rust, bytes);
+    rows.hold(&format!("{row}, capture reading"), (found.packet.answer, found.is_short), capture);
+}
+
+/// Rows of reading that say a number and a value, the same for both readings; none of them is told to be short.
 fn numbers(checker: &mut Checker, rows: &mut Rows) {
     let table: Vec<(&str, Vec<u8>, u8, u8)> = vec![
         ("P-01", vec![], 1, 0),
@@ -112,20 +121,48 @@ fn numbers(checker: &mut Checker, rows: &mut Rows) {
         ("P-19", k36(&[(7, 1)], 37), 0, 0),
         ("P-19", k36(&[(6, 255), (7, 255)], 36 + 65_534), 1, 0),
         ("P-19", k36(&[(6, 255), (7, 255)], 36 + 65_535), 0, 0),
-        ("P-21", k36(&[(5, 10)], 36), 0, 0),
-        ("P-21", k36(&[(5, 255)], 36), 0, 0),
-        ("P-21", with_path(1, M1, 19, 0, 72), 0, 0),
-        ("P-21", with_path(1, M1, 255, 0, 72), 0, 0),
-        ("P-21", with_path(1, M1, 19, 0, 73), 7, 0),
-        ("P-21", k36(&[(5, 10)], 39), 7, 0),
-        ("P-21", k36(&[(5, 10), (7, 1)], 36), 1, 0),
+        ("06-1", k36(&[], 36), 0, 0),
+        ("06-1", k36(&[], 35), 1, 0),
+        ("06-2", k36(&[(5, 8)], 30), 3, 8),
+        ("06-2", k36(&[(0, 0x10), (5, 10)], 36), 2, 1),
+        ("06-4", k36(&[], 36), 0, 0),
+        ("06-5", vec![0x10], 2, 1),
+        ("06, payload", k36(&[(5, 10), (7, 4)], 40), 7, 0),
+        ("06, payload", k36(&[(5, 10), (7, 1)], 36), 1, 0),
     ];
     for (row, bytes, number, value) in table {
-        rows.hold(row, read(checker, &bytes).answer, Answer { number, value });
+        let answer = Answer { number, value };
+        both(checker, rows, row, &bytes, answer, (answer, 0));
     }
 }
 
-/// Rows of reading that say values.
+/// Rows of reading with fewer bytes than 4 × factor: 1 for the refusing reading; a number, and whether it is short, for the
+/// capture reading.
+fn short_headers(checker: &mut Checker, rows: &mut Rows) {
+    let table: Vec<(&str, Vec<u8>, u8, u8)> = vec![
+        ("P-21", k36(&[(5, 10)], 36), 0, 1),
+        ("P-21", k36(&[(5, 255)], 36), 0, 1),
+        ("P-21", with_path(1, M1, 19, 0, 72), 0, 1),
+        ("P-21", with_path(1, M1, 255, 0, 72), 0, 1),
+        ("P-21", with_path(1, M1, 19, 0, 73), 7, 0),
+        ("P-21", k36(&[(5, 10)], 39), 7, 0),
+        ("P-21", k36(&[(5, 10), (7, 1)], 36), 1, 0),
+        ("P-16", with_path(2, "-", 11, 0, 40), 0, 1),
+        ("06-1", k36(&[(5, 10)], 36), 0, 1),
+        ("06-2", with_path(1, "00002001", 11, 0, 40), 4, 0),
+        ("06-2", with_path(1, "40002000", 11, 0, 40), 5, 0),
+        ("06-2", with_path(1, "02002000", 11, 0, 40), 6, 0),
+        ("06-2", k36(&[(5, 10)], 39), 7, 0),
+        ("06-4", k36(&[(5, 10)], 36), 0, 1),
+        ("06-4", with_path(1, M1, 19, 0, 72), 0, 1),
+        ("06-5", k36(&[(5, 10)], 39), 7, 0),
+    ];
+    for (row, bytes, number, is_short) in table {
+        both(checker, rows, row, &bytes, refusal(1), (Answer { number, value: 0 }, is_short));
+    }
+}
+
+/// Rows of reading that say values, by the capture reading where the packet is short.
 fn values(checker: &mut Checker, rows: &mut Rows) {
     let packet = read(checker, &k36(&[(0, 0x0a), (1, 0xb1), (2, 0x23), (3, 0x45)], 36));
     rows.hold("P-05", (packet.version, packet.traffic_class, packet.flow_id), (0, 0xab, 0x12345));
@@ -473,6 +510,7 @@ fn written_again(checker: &mut Checker, rows: &mut Rows) {
 pub fn run(checker: &mut Checker) -> bool {
     let mut rows = Rows::default();
     numbers(checker, &mut rows);
+    short_headers(checker, &mut rows);
     values(checker, &mut rows);
     bytes_written(checker, &mut rows);
     refusals(checker, &mut rows);

@@ -1,12 +1,12 @@
 //! The harness made to fail: every byte of every answer, lent bytes and their guards, and the ends of paths that are
-//! written are made wrong in turn, and plausible wrong rules of moving, of interfaces, of times, of arrivals and of padding
-//! are put in the right one's place. Each has to be reported.
+//! written are made wrong in turn, and plausible wrong rules of moving, of interfaces, of times, of arrivals, of padding and
+//! of short packets are put in the right one's place. Each has to be reported.
 
 use std::mem::offset_of;
 
 use scion_proto::{
-    Answer, Expiry, Headers, HopField, InfoField, Interface, InterfaceCount, Packet, PathAnswer, PathRead, Segment,
-    TimeLeft, Walk, WrittenPath,
+    Answer, Capture, Expiry, Headers, HopField, InfoField, Interface, InterfaceCount, Packet, PathAnswer, PathRead,
+    Segment, TimeLeft, Walk, WrittenPath,
 };
 
 use crate::check::{Checker, Input};
@@ -43,6 +43,7 @@ fn answer_bytes(call: Call) -> Vec<usize> {
         Call::CopyPath | Call::ReversePath => bytes_of::<WrittenPath>(),
         Call::Walk => bytes_of::<Walk>(),
         Call::ReadPacket => bytes_of::<Packet>(),
+        Call::ReadCapture => bytes_of::<Capture>(),
         Call::RecordExpiry => bytes_of::<u64>(),
         Call::NewHeaders => bytes_of::<Headers>(),
         Call::HeadersLength => bytes_of::<usize>(),
@@ -69,7 +70,7 @@ fn faults(call: Call) -> Vec<Plant> {
     if lends(call) {
         all.extend([0, 7, 15, 16, 17, 19].map(Fault::LentByte));
         all.extend([0, 8, 15].map(Fault::LentByteFromEnd));
-        if call != Call::ReadPacket {
+        if !matches!(call, Call::ReadPacket | Call::ReadCapture) {
             all.extend([16, 17, 20].map(Fault::LentByteFromEnd));
         }
     }
@@ -82,7 +83,7 @@ fn faults(call: Call) -> Vec<Plant> {
     plants.filter(|plant| plant.accepted || plant.fault != Fault::FrontShort).collect()
 }
 
-/// A short run that makes every call, accepted and refused.
+/// A short run that makes every call, accepted and refused; packets also as short captures.
 fn short_run(checker: &mut Checker) {
     let mut random = Random::new(5);
     let path = shapes::path_of(&mut random, [2, 2, 0], Pointers::Anywhere);
@@ -151,6 +152,11 @@ fn packet_run(checker: &mut Checker) {
     packets::every_kind(checker, &mut Random::new(8));
 }
 
+/// Packets of every type and factor, over few bytes, just the factor's and those beside, and many.
+fn factor_run(checker: &mut Checker) {
+    packets::every_type_and_factor(checker, &mut Random::new(10));
+}
+
 /// Headers of every kind made and written.
 fn header_run(checker: &mut Checker) {
     writing::every_kind(checker, &mut Random::new(9));
@@ -158,7 +164,8 @@ fn header_run(checker: &mut Checker) {
 
 /// The runs that have to tell a wrong rule from the right one. Event lists begin with paths that moves admit, so that
 /// rules of refusal are not theirs to find; all of such a path lies ahead; and they ask no path for its interfaces and
-/// no record for its time left. No packet has a padding in a host that is no service.
+/// no record for its time left. No packet has a padding in a host that is no service; and those of every kind have version
+/// 0, and all the bytes of a factor below 9.
 fn runs_of(twist: Twist) -> &'static [fn(&mut Checker)] {
     match twist {
         Twist::SixtyFiveAreNotTooMany
@@ -189,6 +196,15 @@ fn runs_of(twist: Twist) -> &'static [fn(&mut Checker)] {
         | Twist::PaddingOfTheOtherHostIsWritten
         | Twist::PaddingIsWrittenTurned
         | Twist::NewHeadersKeepThePadding => &[packet_run, header_run],
+        Twist::ShortIsTestedBeforeTheVersion | Twist::ShortIsTestedBeforeTheFactor => &[factor_run],
+        Twist::ShortIsTestedLast
+        | Twist::JustEnoughIsCut
+        | Twist::PayloadIsCountedAsHeader
+        | Twist::CommonHeaderIsNotCounted
+        | Twist::JustEnoughIsShort
+        | Twist::ShortIsToldOnARefusal
+        | Twist::ShortIsNeverTold
+        | Twist::ShortCaptureIsRefused => &[packet_run, factor_run],
         _ => &[shape_run, event_run],
     }
 }
@@ -253,7 +269,7 @@ fn stored_faults() -> (usize, usize) {
 /// Plants every fault; whether all were reported, and none where none was planted.
 pub fn run() -> bool {
     let mut clean = Checker::default();
-    for run in [short_run, shape_run, event_run, packet_run, header_run, records::borders] {
+    for run in [short_run, shape_run, event_run, packet_run, factor_run, header_run, records::borders] {
         run(&mut clean);
     }
     println!("without a fault: {}", clean.tally.summary());
@@ -271,7 +287,7 @@ pub fn run() -> bool {
     }
     let twists = missed_twists();
     println!(
-        "{} wrong rules of moving, of interfaces, of times, of arrivals and of padding, {twists} missed",
+        "{} wrong rules of moving, of interfaces, of times, of arrivals, of padding and of short packets, {twists} missed",
         TWISTS.len()
     );
     let (stored, stored_missed) = stored_faults();

@@ -298,9 +298,17 @@ pub fn packet(random: &mut Random) -> Vec<u8> {
     bytes
 }
 
-/// At times a factor or payload length that is not the packet's own, or bytes after the payload.
+/// Leaves the headers of a packet alone, without a payload, and raises their factor: they are a short capture.
+pub fn shorten(random: &mut Random, bytes: &mut Vec<u8>) {
+    let end = 4 * usize::from(bytes[5]);
+    bytes[5] = bytes[5].saturating_add(random.pick(&[1, 1, 2, 40, 255]));
+    bytes[6..8].fill(0);
+    bytes.truncate(end);
+}
+
+/// At times a factor or payload length that is not the packet's own, bytes after the payload, or a short capture.
 fn unsettle(random: &mut Random, bytes: &mut Vec<u8>) {
-    match random.below(12) {
+    match random.below(14) {
         0 => bytes[5] = random.next() as u8,
         1 => bytes[5] = bytes[5].wrapping_add(random.pick(&[1, 2, 255, 254])),
         2 => bytes[7] = bytes[7].wrapping_add(random.pick(&[1, 255])),
@@ -309,6 +317,7 @@ fn unsettle(random: &mut Random, bytes: &mut Vec<u8>) {
             bytes.extend(random.bytes(more));
         }
         4 => bytes[5] = 255,
+        5..7 => shorten(random, bytes),
         _ => {}
     }
 }

@@ -26,6 +26,7 @@ pub enum Call {
     Move,
     Walk,
     ReadPacket,
+    ReadCapture,
     NewHeaders,
     HeadersLength,
     WriteHeaders,
@@ -33,7 +34,7 @@ pub enum Call {
 }
 
 /// Every call, in the order of the tables.
-pub const CALLS: [Call; 22] = [
+pub const CALLS: [Call; 23] = [
     Call::ReadPath,
     Call::InfoField,
     Call::HopField,
@@ -52,6 +53,7 @@ pub const CALLS: [Call; 22] = [
     Call::Move,
     Call::Walk,
     Call::ReadPacket,
+    Call::ReadCapture,
     Call::NewHeaders,
     Call::HeadersLength,
     Call::WriteHeaders,
@@ -88,10 +90,11 @@ pub enum Exception {
     LongerEncoderDestination,
     ContradictoryHeaders,
     ServicePadding,
+    ShortHeader,
 }
 
 /// Each exception with its reason.
-pub const EXCEPTIONS: [(Exception, &str); 8] = [
+pub const EXCEPTIONS: [(Exception, &str); 9] = [
     (
         Exception::PanickingSize,
         "the Rust was seen to panic at this size; 01: 9, or 1 for a number cut short; 2026-08: a longer copy's front",
@@ -120,6 +123,10 @@ pub const EXCEPTIONS: [(Exception, &str); 8] = [
     (
         Exception::ServicePadding,
         "a service's padding that is not zero, where the Rust writes zero; 2026-05: written as it is given",
+    ),
+    (
+        Exception::ShortHeader,
+        "a packet with fewer bytes than 4 × its factor, of which the Rust reads what is there; 2026-06: 1",
     ),
 ];
 

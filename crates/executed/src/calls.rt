@@ -183,10 +183,10 @@ fn write(number: usize, line: &[u8], bytes: &[u8], dst: &mut [u8]) {
 fn answer_read(line: &[u8]) {
     let number = words::call_of(
         line,
-        b"packet s common s meta s firsts s info s infodir sf hop s hopflags sff sides ss ends s parts s reads so recordpacket s",
+        b"common s meta s firsts s info s infodir sf hop s hopflags sff sides ss ends s parts s reads so",
     );
     if number == 0 {
-        answer_numbers(line);
+        answer_packets(line);
         return;
     }
     let mut room = [0u8; words::MOST_BYTES];
@@ -197,19 +197,39 @@ fn answer_read(line: &[u8]) {
 // Reads the bytes of word 1.
 fn read(number: usize, line: &[u8], bytes: &[u8]) {
     match number {
+        1 => packets::common(bytes),
+        2 => meta_headers::meta(bytes),
+        3 => meta_headers::firsts(bytes),
+        4 => fields::info(bytes),
+        5 => fields::infodir(line, bytes),
+        6 => fields::hop(bytes),
+        7 => fields::hopflags(line, bytes),
+        8 => fields::sides(line, bytes),
+        9 => runs::ends(bytes),
+        10 => runs::parts(bytes),
+        _ => runs::reads(bytes, words::word(line, 2)),
+    }
+}
+
+// Answers a call that splits the packet or the capture of word 1.
+fn answer_packets(line: &[u8]) {
+    let number = words::call_of(line, b"packet s capture s recordpacket s recordcapture s");
+    if number == 0 {
+        answer_numbers(line);
+        return;
+    }
+    let mut room = [0u8; words::MOST_BYTES];
+    let length = words::bytes_at(line, 1, &mut room);
+    split(number, &room[..length]);
+}
+
+// Splits the packet or the capture that begins the bytes.
+fn split(number: usize, bytes: &[u8]) {
+    match number {
         1 => packets::packet(bytes),
-        2 => packets::common(bytes),
-        3 => meta_headers::meta(bytes),
-        4 => meta_headers::firsts(bytes),
-        5 => fields::info(bytes),
-        6 => fields::infodir(line, bytes),
-        7 => fields::hop(bytes),
-        8 => fields::hopflags(line, bytes),
-        9 => fields::sides(line, bytes),
-        10 => runs::ends(bytes),
-        11 => runs::parts(bytes),
-        12 => runs::reads(bytes, words::word(line, 2)),
-        _ => records::packet(bytes),
+        2 => packets::capture(bytes),
+        3 => records::packet(bytes),
+        _ => records::capture(bytes),
     }
 }
 

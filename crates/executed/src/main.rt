@@ -92,11 +92,12 @@ fn execute_lines(input: &mut [u8], filled: usize) -> usize
     keep_rest(input, end, filled)
 }
 
+// Executes the lines on standard input, of which it reads at most 32 blocks.
 fn main() {
     let mut input = io::large_buffer();
     let mut held: usize = 0;
     let mut blocks: usize = 0;
-    while blocks < 16 {
+    while blocks < 32 {
         let filled = read_on(&mut input, held);
         held = execute_lines(&mut input, filled);
         blocks += 1;

@@ -116,9 +116,8 @@ pub fn address(line: &[u8]) {
     end(read.header.source());
 }
 
-// `packet B`: the packet that begins the bytes, where its path and its payload lie, and their bytes.
-pub fn packet(bytes: &[u8]) {
-    let packet = ScionPacketRaw::decode(bytes);
+// A packet or capture that was split: its headers, where its path and its payload lie, and their bytes.
+fn packet_record(packet: ScionPacketRaw, bytes: &[u8]) {
     let answer = packet.answer;
     print::decoded(answer);
     common_record(packet.common);
@@ -128,6 +127,18 @@ pub fn packet(bytes: &[u8]) {
     print::bytes(packet.path(bytes));
     print::number(packet.payload_part.start as u64);
     print::bytes(packet.payload(bytes));
+}
+
+// `packet B`: the packet that begins the bytes.
+pub fn packet(bytes: &[u8]) {
+    packet_record(ScionPacketRaw::decode(bytes), bytes);
+}
+
+// `capture B`: the capture that begins the bytes, and whether it is short.
+pub fn capture(bytes: &[u8]) {
+    let read = ScionPacketRaw::decode_capture(bytes);
+    packet_record(read.packet, bytes);
+    print::flag(read.short);
 }
 
 // A host of a kind: IPv4, IPv6, a service, or a kind without a name.

@@ -44,12 +44,21 @@ pub fn views(path: DataplanePath, bytes: &[u8], index: usize) {
     print::number(path_interfaces::interface(path, bytes, index).path.expiry);
 }
 
-// `recordpacket B`: the record of a packet's path.
-pub fn packet(bytes: &[u8]) {
-    let packet = ScionPacketRaw::decode(bytes);
+// The record of the path of a packet or capture that was split.
+fn of_packet(packet: ScionPacketRaw) {
     let answer = packet.answer;
     print::decoded(answer);
     record(packet.path);
+}
+
+// `recordpacket B`: the record of a packet's path.
+pub fn packet(bytes: &[u8]) {
+    of_packet(ScionPacketRaw::decode(bytes));
+}
+
+// `recordcapture B`: the record of a capture's path.
+pub fn capture(bytes: &[u8]) {
+    of_packet(ScionPacketRaw::decode_capture(bytes).packet);
 }
 
 // The record of the path that a call leaves.

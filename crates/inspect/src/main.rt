@@ -1,5 +1,6 @@
-// What a station sees in a packet: every header value, the path, the moves ahead and the reply's path, or why the packet is refused. Each
-// argument names a file that holds one packet; without arguments the packet is on standard input. A packet is at most 65,536 bytes here.
+// What is in a captured packet: every header value, the path, the moves ahead and the reply's path, or why it is refused; whether it is
+// short, having fewer bytes than its headers say, for a station refuses such a packet. Each argument names a file that holds one packet;
+// without arguments the packet is on standard input. A packet is at most 65,536 bytes here.
 // Standard error stays empty unless a file can't be looked at; a Rattle program can't set its exit status, which is always 0.
 mod header_lines;
 mod path_lines;
@@ -14,7 +15,8 @@ use path::standard::Part;
 
 // The bytes after a packet's payload, and whether they read as a packet.
 fn following(rest: &[u8], at: usize) {
-    let packet = ScionPacketRaw::decode(rest);
+    let read = ScionPacketRaw::decode_capture(rest);
+    let packet = read.packet;
     let answer = packet.answer;
     text::size_line(b"after the payload", rest.len() as u64);
     if let Decoded::Accepted = answer {
@@ -47,7 +49,6 @@ fn accepted(bytes: &[u8], packet: ScionPacketRaw) {
     let path_part = packet.path_part;
     let payload_part = packet.payload_part;
     let path_bytes = packet.path(bytes);
-    text::text_line(b"answer", b"0 accepted");
     header_lines::common(common);
     header_lines::address(address);
     text::text(b"path\n");
@@ -62,15 +63,33 @@ fn accepted(bytes: &[u8], packet: ScionPacketRaw) {
     after(bytes, payload_part);
 }
 
-// One packet.
-fn inspect(bytes: &[u8]) {
-    text::size_line(b"packet", bytes.len() as u64);
+// What a station answers, where that is another number than the capture's.
+fn at_a_station(bytes: &[u8], number: u8) {
     let packet = ScionPacketRaw::decode(bytes);
     let answer = packet.answer;
-    match answer {
-        Decoded::Accepted => accepted(bytes, packet),
-        Decoded::Refused(error) => refusal::line(error),
+    if let Decoded::Refused(error) = answer {
+        if error.number() != number {
+            refusal::line(b"at a station", error);
+        }
     }
+}
+
+// One capture.
+fn inspect(bytes: &[u8]) {
+    text::size_line(b"packet", bytes.len() as u64);
+    let read = ScionPacketRaw::decode_capture(bytes);
+    let packet = read.packet;
+    let answer = packet.answer;
+    if let Decoded::Refused(error) = answer {
+        refusal::line(b"answer", error);
+        text::flag_line(b"short", read.short);
+        at_a_station(bytes, error.number());
+        return;
+    }
+    text::text_line(b"answer", b"0 accepted");
+    text::flag_line(b"short", read.short);
+    at_a_station(bytes, 0);
+    accepted(bytes, packet);
 }
 
 // The packet that an open file holds. One read more tells a file's end from a read that failed and from a file that is too long.

@@ -54,9 +54,9 @@ pub fn none(title: &[u8], error: PathError) {
 }
 
 // The refusal of a packet, with the version or the factor that was refused.
-pub fn line(error: DecodeError) {
+pub fn line(title: &[u8], error: DecodeError) {
     let number = error.number();
-    text::name(b"answer");
+    text::name(title);
     words(number);
     if number == 2 {
         text::text(b": ");

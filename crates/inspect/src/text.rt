@@ -83,6 +83,16 @@ pub fn text_line(title: &[u8], words: &[u8]) {
     end();
 }
 
+// A line with yes or no.
+pub fn flag_line(title: &[u8], flag: bool) {
+    name(title);
+    if flag {
+        text(b"yes\n");
+    } else {
+        text(b"no\n");
+    }
+}
+
 // A line with bytes.
 pub fn hex_line(title: &[u8], bytes: &[u8]) {
     name(title);

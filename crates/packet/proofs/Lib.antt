@@ -1,1 +1,3 @@
 pub mod RawLaws
+pub mod Captures
+pub mod Examples

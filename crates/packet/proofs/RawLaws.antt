@@ -1,15 +1,15 @@
 -- What each stage of a packet's reading hands on, what is known of a packet that was read, and where its parts lie.
 -- Assumes nothing.
 use mathlib.Core.Path.{_≡_, refl, sym, ap, subst, _∙_}
-use mathlib.Core.Bool.{Bool, true, false}
+use mathlib.Core.Bool.{Bool, true, false, cond}
 use mathlib.Core.List.{List}
 use Prim.Native.Nat.{ℕ, _+_, _-_, _/_, _%_, _≤_, _<_, min}
 use native.Mathlib.Omega.{arith}
 use lib.ListN.{length, getD, take, drop, length-drop, drop-of-length-le}
 use lib.Seq.{take-add, take-all, take-length, drop-length, drop-at, length-take-le}
-use lib.Dec.{leb, eqb}
-use borrow.Author.Tests.{lt-leb, le-leb, leb-true, leb-false, eq-eqb, ne-eqb, eqb-true}
-use Rattle.wire_encoding.specs.Result.{Result, ok, refused}
+use lib.Dec.{ltb, leb, eqb}
+use borrow.Author.Tests.{le-ltb, lt-leb, le-leb, leb-true, leb-false, eq-eqb, ne-eqb, eqb-true}
+use Rattle.wire_encoding.specs.Result.{Result, ok, refused, mapped, orElse}
 use Rattle.wire_encoding.specs.BigEndian.{part}
 use Rattle.wire_encoding.proofs.Result.{same-value, held, stepped}
 use Rattle.wire_encoding.proofs.Lists.{length-part}
@@ -26,7 +26,7 @@ use Rattle.packet_address_header.specs.AddressHeader.{zeroAddress, addressLengt
 use Rattle.packet_address_header.specs.declared.AddressHeader.{AddressHeader}
 use Rattle.packet_address_header.specs.declared.AddressHeaderRead.{AddressHeaderRead}
 use Rattle.packet_address_header.proofs.AddressHeaderLaws.{address-known, address-length}
-use Rattle.packet.specs.Raw.{Packet, readPacket, pathPart, payloadPart, packetAnswer, PartsOfThePacket}
+use Rattle.packet.specs.Raw.{Packet, readRest, isShort, readPacket, readCapture, pathPart, payloadPart, packetAnswer}
 
 -- WHAT A STAGE HANDED BACK
 
@@ -51,6 +51,38 @@ module _ (r : Result DecodeError AddressHeader) {x : AddressHeaderRead} (e : x �
   pub address-long : x .answer ≡ Accepted → x .length ≡ addressLength (x .header)
   unfolding addressAnswer
   address-long h = rw (address-ok h) at (ap (λ (y : AddressHeaderRead). y .length) e)
+
+-- whether a capture is short, by the header that is handed back: where it was refused its length is 0, and nothing is shorter
+pub short-handed : (r : Result DecodeError Packet) (bytes : List ℕ)
+    → ltb (length bytes) (headerLength (packetAnswer r .common)) ≡ orElse (mapped (λ (p : Packet). isShort (p .common) bytes) r) false
+unfolding packetAnswer isShort headerLength zeroCommon commonAt
+short-handed (ok p) bytes = refl
+short-handed (refused error) bytes = le-ltb (length bytes) 0 (omega arith)
+
+-- A PACKET OR A CAPTURE, STAGE BY STAGE
+
+-- refused with the common header
+pub first-refused : (capture : Bool) (bytes : List ℕ) {error : DecodeError} → readCommon bytes ≡ refused error
+    → cond capture (readCapture bytes) (readPacket bytes) ≡ refused error
+unfolding readPacket readCapture
+first-refused true bytes common = rw common
+first-refused false bytes common = rw common
+
+-- refused for being short, a packet alone
+pub then-short : (capture : Bool) (bytes : List ℕ) {c : CommonHeader} → readCommon bytes ≡ ok c
+    → cond capture false (ltb (length bytes) (headerLength c)) ≡ true
+    → cond capture (readCapture bytes) (readPacket bytes) ≡ refused PacketEmptyOrTruncated
+unfolding readPacket isShort
+then-short true bytes common short = let z : _≡_ {A = ℕ} 0 1 = cc in absurd (omega arith)
+then-short false bytes common short = rw (common, short)
+
+-- read on
+pub then-rest : (capture : Bool) (bytes : List ℕ) {c : CommonHeader} → readCommon bytes ≡ ok c
+    → cond capture false (ltb (length bytes) (headerLength c)) ≡ false
+    → cond capture (readCapture bytes) (readPacket bytes) ≡ readRest c bytes
+unfolding readPacket readCapture isShort
+then-rest true bytes common long = rw common
+then-rest false bytes common long = rw (common, long)
 
 -- WHAT A STAGE SEES
 
@@ -131,20 +163,19 @@ pub record PathFound (bytes : List ℕ) (c : CommonHeader) (end : ℕ) (a : Addr
   pub path : readDataplane (c .«path_type») (drop (12 + addressLength a) (take (headerLength c) bytes)) ≡ ok read
 
 module _ {bytes : List ℕ} {c : CommonHeader} {end : ℕ} {a : AddressHeader} {start : ℕ} {read : Extent} (f : PathFound bytes c end a start read) where
-  pub left-over : (read .length ≡ end - start → ⊥) → readPacket bytes ≡ refused InconsistentPathLength
-  unfolding readPacket
-  left-over other =
-      rw (f .second .first .common, f .second .address, f .path, ne-eqb _ _ (λ same. other (same ∙ length-path (f .second))))
+  pub left-over : (read .length ≡ end - start → ⊥) → readRest c bytes ≡ refused InconsistentPathLength
+  unfolding readRest
+  left-over other = rw (f .second .address, f .path, ne-eqb _ _ (λ same. other (same ∙ length-path (f .second))))
 
   module _ (whole : read .length ≡ end - start) where
     fills : length (drop (12 + addressLength a) (take (headerLength c) bytes)) ≡ read .length
     fills = length-path (f .second) ∙ sym whole
 
-    pub payload-short : length bytes - end < c .«payload_length» → readPacket bytes ≡ refused PacketEmptyOrTruncated
-    unfolding readPacket
+    pub payload-short : length bytes - end < c .«payload_length» → readRest c bytes ≡ refused PacketEmptyOrTruncated
+    unfolding readRest
     payload-short few =
         let short : length (drop (headerLength c) bytes) < c .«payload_length» = rw (length-rest (f .second)) few in
-        rw (f .second .first .common, f .second .address, f .path, eq-eqb _ _ (sym fills), lt-leb _ _ short)
+        rw (f .second .address, f .path, eq-eqb _ _ (sym fills), lt-leb _ _ short)
 
     -- a packet whose path fills the headers and whose payload is there
     pub packet-split : c .«payload_length» ≤ length bytes - end
@@ -156,13 +187,12 @@ module _ {bytes : List ℕ} {c : CommonHeader} {end : ℕ} {a : AddressHeader} {
           «path_part» = record { start = start; len = read .length };
           «payload_part» = record { start = end; len = c .«payload_length» };
         }
-        ≡ packetAnswer (readPacket bytes)
-    unfolding readPacket packetAnswer pathPart payloadPart
+        ≡ packetAnswer (readRest c bytes)
+    unfolding readRest packetAnswer pathPart payloadPart
     packet-split room =
         let fits : c .«payload_length» ≤ length (drop (headerLength c) bytes) = rw (length-rest (f .second)) room in
         let sum : start + read .length ≡ end = omega (arith, start-inside (f .second), whole) in
         rw (
-          f .second .first .common,
           f .second .address,
           f .path,
           eq-eqb _ _ (sym fills),
@@ -173,7 +203,7 @@ module _ {bytes : List ℕ} {c : CommonHeader} {end : ℕ} {a : AddressHeader} {
           sum,
         )
 
--- A PACKET THAT WAS READ
+-- A PACKET OR CAPTURE THAT WAS READ
 
 pub record Split (bytes : List ℕ) (p : Packet) : Type 0 where
   pub read : Extent
@@ -186,13 +216,11 @@ pub record Split (bytes : List ℕ) (p : Packet) : Type 0 where
   pub room : p .common .«payload_length» ≤ length (drop (headerLength (p .common)) bytes)
   pub payload-is : p .payload ≡ take (p .common .«payload_length») (drop (headerLength (p .common)) bytes)
 
-pub split : (bytes : List ℕ) {p : Packet} → readPacket bytes ≡ ok p → Split bytes p
-unfolding readPacket
-split bytes h =
-    let common = stepped (readCommon bytes) _ h in
-    let c = common .value in
+split-rest : (bytes : List ℕ) {c : CommonHeader} {p : Packet} → readCommon bytes ≡ ok c → readRest c bytes ≡ ok p → Split bytes p
+unfolding readRest
+split-rest bytes {c = c} common h =
     let headers = take (headerLength c) bytes in
-    let address = stepped (readAddress (drop 12 headers) (c .«destination_kind») (c .«source_kind»)) _ (common .then) in
+    let address = stepped (readAddress (drop 12 headers) (c .«destination_kind») (c .«source_kind»)) _ h in
     let own = drop (12 + addressLength (address .value)) headers in
     let path = stepped (readDataplane (c .«path_type») own) _ (address .then) in
     let whole = held (eqb (path .value .length) (length own)) _ _ (path .then) in
@@ -200,7 +228,7 @@ split bytes h =
     subst (λ (q : Packet). Split bytes q) (same-value (room .1))
     (record {
       read = path .value;
-      common = common .first;
+      common = common;
       address = address .first;
       path = path .first;
       path-is = refl;
@@ -208,6 +236,10 @@ split bytes h =
       room = leb-true _ _ (room .0);
       payload-is = refl;
     })
+
+pub split : (bytes : List ℕ) {p : Packet} → readCapture bytes ≡ ok p → Split bytes p
+unfolding readCapture
+split bytes h = let common = stepped (readCommon bytes) _ h in split-rest bytes (common .first) (common .then)
 
 -- where its headers end, and where its path starts
 module _ {bytes : List ℕ} {p : Packet} (s : Split bytes p) where
@@ -230,7 +262,3 @@ module _ {bytes : List ℕ} {p : Packet} (s : Split bytes p) where
       let m : ℕ = headerLength (p .common) in
       let size : length (p .payload) ≡ n = ap length (s .payload-is) ∙ length-take-le n (drop m bytes) (s .room) in
       rw (payload-start, size) (ap (take n) (clipped m (min m (length bytes)) bytes refl .1) ∙ sym (s .payload-is))
-
-pub parts-of-the-packet : PartsOfThePacket
-unfolding packetAnswer
-parts-of-the-packet bytes p read = rw read (path-lies (split bytes read), payload-lies (split bytes read))

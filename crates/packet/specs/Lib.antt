@@ -1,1 +1,3 @@
 pub mod Raw
+pub mod Captures
+pub mod Examples

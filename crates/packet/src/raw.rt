@@ -8,10 +8,12 @@ use path::standard::Part;
 use path::standard::StandardPath;
 use wire_encoding::read::part_of;
 ghost use mathlib.Core.Path.{_≡_};
+ghost use mathlib.Core.Bool.{false, cond};
+ghost use lib.Dec.{ltb};
 ghost use Prim.Native.Nat.{_≤_, min};
-ghost use Rattle.wire_encoding.specs.Result.{refused};
+ghost use Rattle.wire_encoding.specs.Result.{ok, refused};
 ghost use Rattle.path.specs.Dataplane.{partIn};
-ghost use Rattle.packet_common_header.specs.CommonHeader.{headerLength};
+ghost use Rattle.packet_common_header.specs.CommonHeader.{headerLength, readCommon};
 ghost use Rattle.packet.specs.Raw as spec;
 
 // A packet that was split: its headers, the record of its path, and where its path and its payload lie; all zero where it was refused.
@@ -22,6 +24,22 @@ pub struct ScionPacketRaw {
     pub path: StandardPath,
     pub path_part: Part,
     pub payload_part: Part,
+}
+
+// A capture that was split, and whether it is short: whether it has fewer than 4 times the factor bytes; no where it was refused.
+pub struct CaptureRead {
+    pub packet: ScionPacketRaw,
+    pub short: bool,
+}
+
+// Whether a packet of `len` bytes is refused for being short; a capture is not.
+fn is_refused(common: CommonHeader, len: usize, capture: bool) -> bool
+    ensures { λ r. ⌜ r ≡ cond capture false (ltb len (headerLength common)) ⌝ }
+{
+    if capture {
+        return false;
+    }
+    len < common.header_length()
 }
 
 // Where the headers end: at 4 times the factor, or where the bytes do.
@@ -52,16 +70,11 @@ impl ScionPacketRaw {
         }
     }
 
-    // Splits the packet that begins `bytes`; the bytes after its payload are no part of it.
-    pub fn decode(bytes: &[u8]) -> ScionPacketRaw
-        ensures { λ r. ⌜ r ≡ spec.packetAnswer (spec.readPacket (now (bytes .entry))) ⌝ }
+    // Splits what follows the common header.
+    fn rest(common: CommonHeader, bytes: &[u8]) -> ScionPacketRaw
+        requires { ⌜ readCommon (now bytes) ≡ ok common ⌝ }
+        ensures { λ r. ⌜ r ≡ spec.packetAnswer (spec.readRest common (now (bytes .entry))) ⌝ }
     {
-        let common_read = CommonHeader::decode(bytes);
-        let common_answer = common_read.answer;
-        if let Decoded::Refused(error) = common_answer {
-            return ScionPacketRaw::refused(error);
-        }
-        let common = common_read.header;
         let end = header_end(common, bytes.len());
         let address_read = AddressHeader::decode_with_context(
             &bytes[CommonHeader::LENGTH..end],
@@ -100,7 +113,40 @@ impl ScionPacketRaw {
         }
     }
 
-    // The path of the packet: the part of its bytes that this answer names.
+    // Splits the packet that begins `bytes`, or the capture; the bytes after its payload are no part of it.
+    pub fn split(bytes: &[u8], capture: bool) -> ScionPacketRaw
+        ensures { λ r. ⌜ r ≡ spec.packetAnswer (cond capture (spec.readCapture (now (bytes .entry))) (spec.readPacket (now (bytes .entry)))) ⌝ }
+    {
+        let common_read = CommonHeader::decode(bytes);
+        let answer = common_read.answer;
+        if let Decoded::Refused(error) = answer {
+            return ScionPacketRaw::refused(error);
+        }
+        let common = common_read.header;
+        if is_refused(common, bytes.len(), capture) {
+            return ScionPacketRaw::refused(DecodeError::PacketEmptyOrTruncated);
+        }
+        ScionPacketRaw::rest(common, bytes)
+    }
+
+    // Splits the packet that begins `bytes`. A short one is refused.
+    pub fn decode(bytes: &[u8]) -> ScionPacketRaw
+        ensures { λ r. ⌜ r ≡ spec.packetAnswer (spec.readPacket (now (bytes .entry))) ⌝ }
+    {
+        ScionPacketRaw::split(bytes, false)
+    }
+
+    // Splits the capture that begins `bytes`, short or not. One that is refused has factor 0, and nothing is shorter than that.
+    pub fn decode_capture(bytes: &[u8]) -> CaptureRead
+        ensures { λ r. ⌜ r ≡ spec.captureAnswer (now (bytes .entry)) ⌝ }
+    {
+        let packet = ScionPacketRaw::split(bytes, true);
+        let common = packet.common;
+        let short = bytes.len() < common.header_length();
+        CaptureRead { packet, short }
+    }
+
+    // The path of the packet or capture: the part of its bytes that this answer names.
     pub fn path(self, bytes: &[u8]) -> &[u8]
         ensures { λ r. ⌜ now r ≡ partIn (now (bytes .entry)) (self .«path_part») ⌝ }
     {
@@ -108,7 +154,7 @@ impl ScionPacketRaw {
         part_of(bytes, part.start, part.len)
     }
 
-    // The payload of the packet: the part of its bytes that this answer names.
+    // The payload of the packet or capture: the part of its bytes that this answer names.
     pub fn payload(self, bytes: &[u8]) -> &[u8]
         ensures { λ r. ⌜ now r ≡ partIn (now (bytes .entry)) (self .«payload_part») ⌝ }
     {

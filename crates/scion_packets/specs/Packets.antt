@@ -11,11 +11,13 @@ use Rattle.packet_address_header.specs.declared.HostAddress.{HostAddress}
 use Rattle.packet_address_header.specs.declared.AddressHeader.{AddressHeader}
 use Rattle.errors.specs.declared.packet_error.Encoded.{Encoded}
 use Rattle.packet.specs.declared.raw.ScionPacketRaw.{ScionPacketRaw}
+use Rattle.packet.specs.declared.raw.CaptureRead.{CaptureRead}
 use Rattle.packet_headers.specs.declared.ScionHeaders as library
 use Rattle.scion_paths.specs.Answer.{decodedOut}
 use Rattle.scion_paths.specs.declared.ScionAnswer.{ScionAnswer}
 use Rattle.scion_packets.specs.declared.ScionHost.{ScionHost}
 use Rattle.scion_packets.specs.declared.ScionPacket.{ScionPacket}
+use Rattle.scion_packets.specs.declared.ScionCapture.{ScionCapture}
 use Rattle.scion_packets.specs.declared.ScionHeaders.{ScionHeaders}
 
 -- HOSTS
@@ -71,6 +73,10 @@ packetOut p =
       «path_part» = p .«path_part»;
       «payload_part» = p .«payload_part»;
     }
+
+-- a capture: its packet, and whether it is short
+unfoldable pub captureOut : CaptureRead → ScionCapture
+captureOut c = record { packet = packetOut (c .packet); «is_short» = c .short }
 
 -- WRITING
 

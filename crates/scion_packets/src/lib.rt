@@ -12,7 +12,10 @@ use path::standard::Part;
 use path::standard::StandardPath;
 use scion_paths::ScionAnswer;
 use scion_paths::decoded_out;
+use wire_encoding::read::wide;
 ghost use mathlib.Core.Path.{_≡_};
+ghost use Prim.Native.Nat.{_*_};
+ghost use lib.Dec.{ltb};
 ghost use Rattle.scion_packets.specs.Packets as spec;
 
 // A host: its kind on the wire, a service's number and padding, or the first bytes of `bytes`.
@@ -43,6 +46,13 @@ pub struct ScionPacket {
     pub source: ScionHost,
     pub path_part: Part,
     pub payload_part: Part,
+}
+
+// A capture that was split, and whether it has fewer bytes than its headers say; `short` is a word of C's.
+#[repr(C)]
+pub struct ScionCapture {
+    pub packet: ScionPacket,
+    pub is_short: bool,
 }
 
 // The headers to be written.
@@ -174,6 +184,17 @@ pub fn packet_out(packet: ScionPacketRaw) -> ScionPacket
         source: host_out(from),
         path_part,
         payload_part,
+    }
+}
+
+// A capture of `len` bytes. One that was refused has factor 0, and nothing is shorter than that.
+pub fn capture_out(packet: ScionPacket, len: usize) -> ScionCapture
+    ensures { λ r. ⌜ r ≡ record { packet = packet; «is_short» = ltb len (4 * packet .«header_length_factor») } ⌝ }
+{
+    let length = 4 * wide(packet.header_length_factor);
+    ScionCapture {
+        packet,
+        is_short: len < length,
     }
 }
 

@@ -1,29 +1,47 @@
-// The calls on packets: reading one, and writing the headers of one.
+// The calls on packets: reading one, or a capture of one, and writing the headers of one.
 use packet::raw::ScionPacketRaw;
 use packet_headers::ScionHeaders as Headers;
+use scion_packets::ScionCapture;
 use scion_packets::ScionHeaders;
 use scion_packets::ScionHost;
 use scion_packets::ScionPacket;
 use scion_packets::address_in;
+use scion_packets::capture_out;
 use scion_packets::encoded_out;
 use scion_packets::headers_in;
 use scion_packets::headers_out;
 use scion_packets::packet_out;
 use scion_paths::ScionAnswer;
 ghost use mathlib.Core.Path.{_≡_};
+ghost use mathlib.Core.Bool.{cond};
 ghost use lib.ListN.{length};
 ghost use Rattle.wire_encoding.specs.Result.{orElse};
 ghost use Rattle.errors.specs.Errors.{encodedOf};
-ghost use Rattle.packet.specs.Raw.{readPacket, packetAnswer};
+ghost use Rattle.packet.specs.Raw.{readPacket, readCapture, packetAnswer, captureAnswer};
 ghost use Rattle.packet_headers.specs.Headers as headers;
 ghost use Rattle.scion_packets.specs.Packets as spec;
 
-// Splits the packet that begins `bytes`.
+// A packet, or a capture, for C: one function for both, so that its code is there once.
+fn split(bytes: &[u8], capture: bool) -> ScionPacket
+    ensures { λ r. ⌜ r ≡ spec.packetOut (packetAnswer (cond capture (readCapture (now (bytes .entry))) (readPacket (now (bytes .entry))))) ⌝ }
+{
+    packet_out(ScionPacketRaw::split(bytes, capture))
+}
+
+// Splits the packet that begins `bytes`; one with fewer bytes than its headers say is refused.
 #[no_mangle]
 pub extern "C" fn scion_read_packet(bytes: &[u8]) -> ScionPacket
     ensures { λ r. ⌜ r ≡ spec.packetOut (packetAnswer (readPacket (now (bytes .entry)))) ⌝ }
 {
-    packet_out(ScionPacketRaw::decode(bytes))
+    split(bytes, false)
+}
+
+// Splits the capture that begins `bytes`, whether or not it has as many bytes as its headers say.
+#[no_mangle]
+pub extern "C" fn scion_read_capture(bytes: &[u8]) -> ScionCapture
+    ensures { λ r. ⌜ r ≡ spec.captureOut (captureAnswer (now (bytes .entry))) ⌝ }
+{
+    capture_out(split(bytes, true), bytes.len())
 }
 
 // The headers of a packet with a path of `path_len` bytes: version, traffic class and reserved 0, the factor by the lengths.

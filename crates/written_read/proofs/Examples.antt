@@ -5,21 +5,21 @@ use Rattle.wire_encoding.specs.BigEndian.{bigEndian, bytesOf}
 use Rattle.path.specs.Dataplane.{readDataplane}
 use Rattle.packet_common_header.specs.CommonHeader as common
 use Rattle.packet_address_header.specs.AddressHeader as address
-use Rattle.packet.specs.Raw.{readPacket}
+use Rattle.packet.specs.Raw.{readRest, isShort, readPacket}
 use Rattle.packet_headers.specs.Headers.{addedLength, addedBytes, headersLength, newHeaders, commonOf, headerBytes}
 use Rattle.written_read.specs.WrittenRead.{headersOf}
 use Rattle.written_read.specs.Examples.{here, there, smallest, toService, fromService, exchanged}
 use Rattle.written_read.specs.Examples.{ServicesRead, ServicesWrittenAgain, ServicesAnswered}
 
 pub services-read : ServicesRead
-unfolding bigEndian readDataplane readPacket here there smallest toService fromService
+unfolding bigEndian readDataplane readRest isShort readPacket here there smallest toService fromService
     common.commonAt common.readCommon common.headerLength common.hostLength
     address.kindOf address.hostOfKind address.padded address.hostAt address.lengthOfKinds address.addressLength address.addressAt
     address.readAddress
 services-read = (refl, refl, refl, refl)
 
 pub services-written-again : ServicesWrittenAgain
-unfolding bigEndian bytesOf readDataplane readPacket here there smallest toService fromService
+unfolding bigEndian bytesOf readDataplane readRest isShort readPacket here there smallest toService fromService
     common.commonAt common.readCommon common.headerLength common.hostLength common.commonBytes
     address.kindOf address.hostOfKind address.padded address.hostAt address.lengthOfKinds address.addressLength address.addressAt
     address.readAddress address.hostBytesOf address.hostBytes address.addressBytes
@@ -27,7 +27,7 @@ unfolding bigEndian bytesOf readDataplane readPacket here there smallest toServi
 services-written-again = (refl, refl)
 
 pub services-answered : ServicesAnswered
-unfolding bigEndian bytesOf readDataplane readPacket here there smallest toService fromService exchanged
+unfolding bigEndian bytesOf readDataplane readRest isShort readPacket here there smallest toService fromService exchanged
     common.commonAt common.readCommon common.headerLength common.hostLength common.commonBytes
     address.kindOf address.hostOfKind address.padded address.hostAt address.lengthOfKinds address.addressLength address.addressAt
     address.readAddress address.withPadding address.withoutPadding address.hostBytesOf address.hostBytes address.addressBytes

@@ -26,7 +26,7 @@ use Rattle.packet_address_header.specs.declared.MaybeEncoded.the-variants.{Deco
 use Rattle.packet_address_header.specs.declared.HostAddress.{HostAddress}
 use Rattle.packet_address_header.specs.declared.AddressHeader.{AddressHeader}
 use Rattle.packet_address_header.proofs.AddressHeaderLaws.{length-without-padding, length-hostBytes}
-use Rattle.packet.specs.Raw.{readPacket}
+use Rattle.packet.specs.Raw.{readRest, isShort, readPacket}
 use Rattle.packet_headers.specs.Headers.{addedLength, addedBytes, headersLength, newHeaders, commonOf, headerBytes, writeHeaders}
 use Rattle.packet_headers.specs.declared.ScionHeaders.{ScionHeaders}
 use Rattle.packet_headers.proofs.Headers.{known}
@@ -60,7 +60,7 @@ new-headers-fill a type path stored next payload flow few read = record {
 }
 
 pub rounded-down : RoundedDown
-unfolding bigEndian bytesOf readDataplane readPacket
+unfolding bigEndian bytesOf readDataplane readRest isShort readPacket
     common.commonAt common.readCommon common.headerLength common.hostLength common.fieldsFit common.commonFits common.commonBytes
     address.kindOf address.hostOfKind address.padded address.hostAt address.lengthOfKinds address.addressLength address.addressAt
     address.withoutPadding address.withPadding address.readAddress address.zeroAddress address.hostBytesOf address.hostBytes address.addressBytes

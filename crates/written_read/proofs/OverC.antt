@@ -3,15 +3,18 @@
 use mathlib.Core.Path.{_≡_, refl}
 use mathlib.Core.Bool.{Bool, true, false}
 use mathlib.Core.List.{List}
-use Prim.Native.Nat.{ℕ, _+_}
+use Prim.Native.Nat.{ℕ, _+_, _<_}
+use lib.ListN.{getD}
 use lib.Dec.{eqb}
 use Rattle.wire_encoding.specs.Result.{ok}
 use Rattle.wire_encoding.proofs.Lists.{Bytes}
 use Rattle.packet_common_header.specs.CommonHeader.{hostLength}
 use Rattle.packet_address_header.specs.AddressHeader.{kindOf, hostAt, addressAt}
 use Rattle.packet_address_header.proofs.AddressHeaderLaws.{kind-of-kind}
-use Rattle.packet.specs.Raw.{Packet, packetAnswer}
-use Rattle.packet.proofs.RawLaws.{Split, split, parts-of-the-packet}
+use Rattle.packet.specs.Raw.{Packet, readPacket, readCapture, packetAnswer}
+use Rattle.packet.specs.Captures.{OfBoth}
+use Rattle.packet.proofs.RawLaws.{Split, split}
+use Rattle.packet.proofs.Captures.{packet-captured, parts-of-the-packet}
 use Rattle.scion_packets.specs.Packets.{hostOut, hostIn, addressIn, packetOut, headersIn}
 use Rattle.written_read.specs.WrittenRead.{headersOf}
 use Rattle.written_read.specs.OverC.{headersAgain, WritesAgainOverC}
@@ -45,8 +48,13 @@ module _ (bytes : List ℕ) (b : Bytes bytes) (p : Packet) (s : Split bytes p) w
   unfolding headersIn headersAgain packetOut packetAnswer headersOf
   headers-back = rw ends-back
 
-pub writes-again-over-c : WritesAgainOverC
+pub writes-again-over-c : OfBoth WritesAgainOverC
 unfolding packetOut packetAnswer
-writes-again-over-c bytes p small read =
-    let b : Bytes bytes = λ i. record { fits = small i } in
-    rw (parts-of-the-packet bytes p read .0, read, headers-back bytes b p (split bytes read)) (writes-again bytes p small read)
+writes-again-over-c =
+    let small-bytes : (bytes : List ℕ) → ((i : ℕ) → getD bytes i 0 < 256) → Bytes bytes = λ bytes small i. record { fits = small i } in
+    let packet : WritesAgainOverC readPacket = λ bytes p small read.
+    rw (parts-of-the-packet .0 bytes p read .0, read, headers-back bytes (small-bytes bytes small) p (split bytes (packet-captured bytes read)))
+    (writes-again .0 bytes p small read) in
+    let capture : WritesAgainOverC readCapture = λ bytes p small read.
+    rw (parts-of-the-packet .1 bytes p read .0, read, headers-back bytes (small-bytes bytes small) p (split bytes read)) (writes-again .1 bytes p small read) in
+    (packet, capture)

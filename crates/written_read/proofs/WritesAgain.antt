@@ -21,8 +21,10 @@ use Rattle.packet_common_header.proofs.CommonHeaderLaws.{common-known, widths-f
 use Rattle.packet_address_header.specs.AddressHeader.{kindOf, addressAt, lengthOfKinds, addressLength, addressBytes}
 use Rattle.packet_address_header.specs.declared.AddressHeader.{AddressHeader}
 use Rattle.packet_address_header.proofs.AddressHeaderLaws.{kind-read, address-length, AddressKnown, address-known}
-use Rattle.packet.specs.Raw.{Packet, pathPart, payloadPart}
+use Rattle.packet.specs.Raw.{Packet, readCapture, pathPart, payloadPart}
+use Rattle.packet.specs.Captures.{OfBoth}
 use Rattle.packet.proofs.RawLaws.{Split, split, where-found, end-inside, sees, start-inside, path-lies}
+use Rattle.packet.proofs.Captures.{packet-captured}
 use Rattle.packet_headers.specs.Headers as headers
 use Rattle.packet_headers.specs.Headers.{addedBytes, addedLength, headersLength, headerBytes, writeHeaders}
 use Rattle.packet_headers.proofs.Headers.{headers-written, length-addedBytes}
@@ -122,9 +124,12 @@ module _ (bytes : List ℕ) (b : Bytes bytes) (p : Packet) (s : Split bytes p) w
       ∙ part-join 0 12 (n + length path) bytes
       ∙ ap (λ (m : ℕ). take m bytes) sum)
 
-pub writes-again : WritesAgain
+captured-again : WritesAgain readCapture
 unfolding payloadPart
-writes-again bytes p small read =
+captured-again bytes p small read =
     let b : Bytes bytes = λ i. record { fits = small i } in
     let s : Split bytes p = split bytes read in
     accepted-again bytes b p s ∙ ap (λ (l : List ℕ). ok l) (same-again bytes b p s)
+
+pub writes-again : OfBoth WritesAgain
+writes-again = (λ bytes p small read. captured-again bytes p small (packet-captured bytes read), captured-again)

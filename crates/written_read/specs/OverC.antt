@@ -1,12 +1,13 @@
--- Writing again what was read, over C: the struct that `scion_read_packet` hands out, copied value by value into the one that
--- `scion_write_headers` takes.
+-- Writing again what was read, over C: the struct that `scion_read_packet` hands out, alone or as the packet of
+-- `scion_read_capture`, copied value by value into the one that `scion_write_headers` takes.
 use Prim.Native.Nat.{ℕ, _<_}
 use mathlib.Core.Path.{_≡_}
 use mathlib.Core.List.{List}
 use lib.ListN.{getD, take}
 use Rattle.wire_encoding.specs.Result.{ok}
 use Rattle.path.specs.Dataplane.{partIn}
-use Rattle.packet.specs.Raw.{Packet, readPacket, packetAnswer}
+use Rattle.packet.specs.Raw.{Packet, packetAnswer}
+use Rattle.packet.specs.Captures.{Reader}
 use Rattle.packet_headers.specs.Headers.{writeHeaders}
 use Rattle.scion_packets.specs.Packets.{packetOut, headersIn}
 use Rattle.scion_packets.specs.declared.ScionPacket.{ScionPacket}
@@ -31,9 +32,9 @@ headersAgain p =
     }
 
 -- they are written, with the bytes of the path's part, into as many bytes as stand before the payload, as these bytes
-abbrev pub WritesAgainOverC : Type 0
-WritesAgainOverC =
-    (bytes : List ℕ) (p : Packet) → ((i : ℕ) → getD bytes i 0 < 256) → readPacket bytes ≡ ok p
-    → let read = packetOut (packetAnswer (readPacket bytes)) in
-    let before = read .«payload_part» .start in
-    writeHeaders (headersIn (headersAgain read)) (partIn bytes (read .«path_part»)) before ≡ ok (take before bytes)
+abbrev pub WritesAgainOverC : Reader → Type 0
+WritesAgainOverC read =
+    (bytes : List ℕ) (p : Packet) → ((i : ℕ) → getD bytes i 0 < 256) → read bytes ≡ ok p
+    → let out = packetOut (packetAnswer (read bytes)) in
+    let before = out .«payload_part» .start in
+    writeHeaders (headersIn (headersAgain out)) (partIn bytes (out .«path_part»)) before ≡ ok (take before bytes)

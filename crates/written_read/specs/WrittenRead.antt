@@ -1,11 +1,14 @@
 -- Reading what was written gives the values back; writing again what was read gives the bytes back. The definitions are those that
--- the contracts of the packet's split and of the encoder cite.
+-- the contracts of the packet's split and of the encoder cite. What is said of a reader holds of both, the one of packets and the one
+-- of captures (`OfBoth`).
 use Prim.Native.Nat.{ℕ, _+_, _*_, _%_, _^_, _≤_, _<_}
 use mathlib.Core.Path.{_≡_}
+use mathlib.Core.Bool.{true}
 use mathlib.Core.List.{List, [], _∷_, _++_}
 use lib.ListN.{length, getD, take, drop}
-use Rattle.wire_encoding.specs.Result.{ok, mapped}
+use Rattle.wire_encoding.specs.Result.{ok, refused, mapped}
 use Rattle.wire_encoding.specs.BigEndian.{part}
+use Rattle.errors.specs.declared.packet_error.DecodeError.the-variants.{PacketEmptyOrTruncated}
 use Rattle.address.specs.declared.service.ServiceAddr.{ServiceAddr}
 use Rattle.address.specs.declared.host.HostAddr.the-variants.{Svc}
 use Rattle.path.specs.Dataplane.{readDataplane}
@@ -15,16 +18,17 @@ use Rattle.packet_address_header.specs.AddressHeader.{kindOf, serviceHost, host
 use Rattle.packet_address_header.specs.declared.MaybeEncoded.the-variants.{Decoded}
 use Rattle.packet_address_header.specs.declared.HostAddress.{HostAddress}
 use Rattle.packet_address_header.specs.declared.AddressHeader.{AddressHeader}
-use Rattle.packet.specs.Raw.{Packet, readPacket, payloadPart}
+use Rattle.packet.specs.Raw.{Packet, readPacket, payloadPart, packetAnswer, captureAnswer}
+use Rattle.packet.specs.Captures.{Reader}
 use Rattle.packet_headers.specs.Headers.{addedBytes, addedLength, headersLength, newHeaders, commonOf, headerBytes, writeHeaders}
 use Rattle.packet_headers.specs.declared.ScionHeaders.{ScionHeaders}
 
 -- A PACKET IN ORDER
 
 -- the bytes of a packet that was read: common header, address header, path and payload, one after the other
-abbrev pub InOrder : Type 0
-InOrder =
-    (bytes : List ℕ) (p : Packet) → readPacket bytes ≡ ok p
+abbrev pub InOrder : Reader → Type 0
+InOrder read =
+    (bytes : List ℕ) (p : Packet) → read bytes ≡ ok p
     → take (payloadPart p .start + payloadPart p .len) bytes
     ≡ take 12 bytes ++ (part 12 (addressLength (p .address)) bytes ++ (p .path-bytes ++ p .payload))
 
@@ -76,11 +80,26 @@ packetOf h path stored payload =
     }
 
 -- headers that were written, and a payload of their length, are read back, whatever follows the payload
-abbrev pub ReadsBack : Type 0
-ReadsBack =
+abbrev pub ReadsBack : Reader → Type 0
+ReadsBack read =
     (h : ScionHeaders) (path : List ℕ) (stored : StandardPath) (size : ℕ) (written payload after : List ℕ) → Typed h → Fills h path stored
     → writeHeaders h path size ≡ ok written → length payload ≡ h .«payload_length»
-    → readPacket (written ++ (payload ++ after)) ≡ ok (packetOf h path stored payload)
+    → read (written ++ (payload ++ after)) ≡ ok (packetOf h path stored payload)
+
+-- headers whose factor says more bytes than are written, and which announce no payload
+pub record SaysMore (h : ScionHeaders) (path : List ℕ) (stored : StandardPath) : Type 0 where
+  pub version : h .version ≡ 0
+  pub more : headersLength (h .address) (h .«path_type») (length path) < 4 * h .«header_length_factor»
+  pub path-read : ReadWhole (h .«path_type») (addedBytes (h .«path_type») path) stored
+  pub unpaid : h .«payload_length» ≡ 0
+
+-- where nothing follows them they are refused with 1 as a packet; as a capture they are read back, and it is short
+abbrev pub ReadsBackShort : Type 0
+ReadsBackShort =
+    (h : ScionHeaders) (path : List ℕ) (stored : StandardPath) (size : ℕ) (written : List ℕ) → Typed h → SaysMore h path stored
+    → writeHeaders h path size ≡ ok written
+    → (readPacket written ≡ refused PacketEmptyOrTruncated)
+    × (captureAnswer written ≡ record { packet = packetAnswer (ok (packetOf h path stored [])); short = true })
 
 -- NEW HEADERS
 
@@ -150,9 +169,8 @@ headersOf p =
       address = p .address;
     }
 
--- the encoder accepts them, and writes the bytes before the payload, whatever they are; a packet shorter than its header length is
--- written so too
-abbrev pub WritesAgain : Type 0
-WritesAgain =
-    (bytes : List ℕ) (p : Packet) → ((i : ℕ) → getD bytes i 0 < 256) → readPacket bytes ≡ ok p
+-- the encoder accepts them, and writes the bytes before the payload, whatever they are; those of a short capture too
+abbrev pub WritesAgain : Reader → Type 0
+WritesAgain read =
+    (bytes : List ℕ) (p : Packet) → ((i : ℕ) → getD bytes i 0 < 256) → read bytes ≡ ok p
     → writeHeaders (headersOf p) (p .path-bytes) (payloadPart p .start) ≡ ok (take (payloadPart p .start) bytes)

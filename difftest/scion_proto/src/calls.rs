@@ -10,6 +10,11 @@ pub fn read_packet(bytes: &[u8]) -> Packet {
     unsafe { c::scion_read_packet(bytes.as_ptr(), bytes.len()) }
 }
 
+/// `scion_read_capture`.
+pub fn read_capture(bytes: &[u8]) -> Capture {
+    unsafe { c::scion_read_capture(bytes.as_ptr(), bytes.len()) }
+}
+
 /// `scion_read_path`.
 pub fn read_path(path_type: u8, bytes: &[u8]) -> PathRead {
     unsafe { c::scion_read_path(path_type, bytes.as_ptr(), bytes.len()) }

@@ -4,6 +4,7 @@ use crate::types::*;
 
 unsafe extern "C" {
     pub fn scion_read_packet(bytes: *const u8, len: usize) -> Packet;
+    pub fn scion_read_capture(bytes: *const u8, len: usize) -> Capture;
     pub fn scion_read_path(path_type: u8, bytes: *const u8, len: usize) -> PathRead;
     pub fn scion_info_field(path_type: u8, bytes: *const u8, len: usize, index: usize) -> InfoField;
     pub fn scion_hop_field(path_type: u8, bytes: *const u8, len: usize, index: usize) -> HopField;

@@ -14,9 +14,16 @@ pub fn read_path(path_type: u8, bytes: &[u8]) -> Result<PathRead, Refusal> {
     calls::read_path(path_type, bytes).result()
 }
 
-/// A packet split into header values, path and payload.
+/// A packet split into header values, path and payload. One with fewer bytes than its headers take by their factor is
+/// refused with 1; captures have a reading of their own, [`read_capture`].
 pub fn read_packet(bytes: &[u8]) -> Result<Packet, Refusal> {
     calls::read_packet(bytes).result()
+}
+
+/// A captured packet split as by [`read_packet`], and whether it is short: one with fewer bytes than 4 × its factor is not
+/// refused for that.
+pub fn read_capture(bytes: &[u8]) -> Result<Capture, Refusal> {
+    calls::read_capture(bytes).result()
 }
 
 /// Info field `index` of a standard path.

@@ -317,6 +317,15 @@ impl Packet {
     }
 }
 
+/// A captured packet that was split, and whether it is short, which is to have fewer bytes than 4 × its factor: 1 or 0, and
+/// 0 on a refusal.
+#[repr(C)]
+#[derive(Debug, Clone, Copy, PartialEq, Eq, Default)]
+pub struct Capture {
+    pub packet: Packet,
+    pub is_short: u8,
+}
+
 /// Headers to be written.
 #[repr(C)]
 #[derive(Debug, Clone, Copy, PartialEq, Eq, Default)]
@@ -369,6 +378,12 @@ answered! {
     PathAnswer PathRead WrittenPath InfoField HopField Segment Expiry TimeLeft InterfaceCount Interface Walk Packet
 }
 
+impl Answered for Capture {
+    fn answer(&self) -> Answer {
+        self.packet.answer
+    }
+}
+
 /// Checks a type's size and where its fields start, when the crate is built.
 macro_rules! laid_out {
     ($name:ident: $size:literal { $($field:ident @ $offset:literal)* }) => {
@@ -403,6 +418,7 @@ laid_out!(Packet: 136 {
     payload_length @ 30 reserved @ 32 flow_id @ 36 destination_ia @ 40 source_ia @ 48 destination @ 56 source @ 78
     path_part @ 104 payload_part @ 120
 });
+laid_out!(Capture: 144 { packet @ 0 is_short @ 136 });
 laid_out!(Headers: 96 {
     version @ 0 traffic_class @ 1 next_header @ 2 path_type @ 3 reserved @ 4 flow_id @ 8 header_length_factor @ 16
     payload_length @ 24 destination_ia @ 32 source_ia @ 40 destination @ 48 source @ 70

@@ -1,6 +1,6 @@
 //! Lines on packets and header writing.
 
-use scion_proto::{Answer, Ends, Headers, Host};
+use scion_proto::{Answer, Ends, Headers, Host, Packet};
 
 use scion_rs::address::{HostAddr, IsdAsn, ScionAddr};
 use scion_rs::packet::{AddressHeader, ByEndpoint};
@@ -8,6 +8,7 @@ use scion_rs::wire_encoding::MaybeEncoded;
 
 use super::Line;
 use super::paths::add_record;
+use crate::model;
 use crate::oracle::{headers, packet, write};
 
 /// Adds a host of an address: kind, service number, all 16 bytes.
@@ -51,10 +52,8 @@ fn add_ends(line: &mut Line, ends: &Ends) {
     add_padded_host(line, &ends.source);
 }
 
-/// `packet B`: number, value, common header, networks, hosts, record, and path and payload, each with where it starts.
-fn read(line: &mut Line) {
-    let bytes = line.bytes(1);
-    let packet = packet::read_packet(&bytes);
+/// Adds a packet: number, value, common header, networks, hosts, record, and path and payload, each with where it starts.
+fn add_packet(line: &mut Line, packet: &Packet, bytes: &[u8]) {
     line.add(packet.answer.number).add(packet.answer.value);
     line.add(packet.version).add(packet.traffic_class).add(packet.flow_id).add(packet.next_header);
     line.add(packet.header_length_factor).add(packet.payload_length).add(packet.path_type);
@@ -64,8 +63,24 @@ fn read(line: &mut Line) {
     add_padded_host(line, &packet.source);
     add_record(line, packet.path);
     for part in [packet.path_part, packet.payload_part] {
-        line.add(part.start).add_bytes(&bytes[part.start..part.start + part.len]);
+        line.add(part.start).add_bytes(part.of(bytes));
     }
+}
+
+/// `packet B`: a packet by the refusing reading.
+fn read(line: &mut Line) {
+    let bytes = line.bytes(1);
+    let (packet, source) = packet::unless_cut(packet::read_packet(&bytes), &bytes);
+    line.source = source;
+    add_packet(line, &packet, &bytes);
+}
+
+/// `capture B`: a packet by the capture reading, and whether it is short.
+fn capture(line: &mut Line) {
+    let bytes = line.bytes(1);
+    let capture = model::capture(packet::read_packet(&bytes), &bytes);
+    add_packet(line, &capture.packet, &bytes);
+    line.add(capture.is_short);
 }
 
 /// `new next payload flow type E P D`: the factor of headers made for ends E and path bytes P, and the headers written to D.
@@ -210,6 +225,7 @@ fn put_address(line: &mut Line) {
 pub fn answer(line: &mut Line) -> bool {
     match line.words[0] {
         "packet" => read(line),
+        "capture" => capture(line),
         "common" => common(line),
         "putcommon" => put_common(line),
         // The Rust has no host kinds of more than 4 bits.

@@ -101,6 +101,12 @@ pub fn answer(line: &mut Line) -> bool {
     let name = line.words[0].to_string();
     match name.as_str() {
         "recordpacket" => {
+            let bytes = line.bytes(1);
+            let (packet, source) = packet::unless_cut(packet::read_packet(&bytes), &bytes);
+            line.source = source;
+            add_left(line, packet.answer, packet.path);
+        }
+        "recordcapture" => {
             let packet = packet::read_packet(&line.bytes(1));
             add_left(line, packet.answer, packet.path);
         }

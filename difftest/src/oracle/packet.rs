@@ -1,12 +1,15 @@
-//! Packets: split by the Rust; the paddings of services, which it drops, are by request 2026-05's text.
+//! Packets: split by the Rust; the paddings of services, which it drops, are by request 2026-05's text, and the refusal of
+//! packets that are cut is by request 2026-06's.
 
 use scion_proto::{Host, Packet, Part};
 use scion_rs::address::HostAddr;
 use scion_rs::packet::{AddressHeader, AddressInfo, ByEndpoint, CommonHeader, RawHostAddress, ScionPacketRaw};
 use scion_rs::wire_encoding::{MaybeEncoded, WireDecode, WireEncode};
 
-use super::{ACCEPTED, Refused, lend, number_of, offset, record};
+use super::path::Expected;
+use super::{ACCEPTED, Refused, lend, number_of, offset, record, refusal};
 use crate::model;
+use crate::tally::{Exception, Source};
 
 /// How many bytes the two networks take that begin an address header.
 const NETWORKS_LENGTH: usize = 16;
@@ -20,6 +23,14 @@ pub fn read_packet(bytes: &[u8]) -> Packet {
         Ok(packet) => values(bytes, &packet),
         Err(error) => Packet::refused(number_of(error)),
     }
+}
+
+/// What the refusing reading answers, where the Rust reads this packet from the bytes: the same, or 1 where they are cut.
+pub fn unless_cut(packet: Packet, bytes: &[u8]) -> Expected<Packet> {
+    if model::is_cut(bytes) {
+        return (Packet::refused(refusal(1)), Source::Excepted(Exception::ShortHeader));
+    }
+    (packet, Source::Rust)
 }
 
 /// Whether the Rust reads the same from a slice as from its byte string.

@@ -10,7 +10,7 @@ abbrev Inv-loop : tie.InvT-loop
 Inv-loop input₀ held₀ blocks₀ input held blocks = (held ≤ 65536) × (length input ≡ 65536)
 
 abbrev μ-loop : tie.MeasureT-loop
-μ-loop input₀ held₀ blocks₀ input held blocks = 16 - blocks
+μ-loop input₀ held₀ blocks₀ input held blocks = 32 - blocks
 
 pub main-spec : {M : Type 1} → statement M
 main-spec =

@@ -1,11 +1,10 @@
--- `scion_read_packet` meets its contract: the library's packet, handed over.
+-- `scion_read_packet` meets its contract: what is split is not a capture.
 use borrow.Author.Needs.{needs}
 use Rattle.scion_proto.proofs.packets.scion_read_packet.Statement.{statement}
 use Rattle.scion_proto.proofs.packets.scion_read_packet.Tie as tie
 
 returns : tie.Need-returns
-returns c = rw (← c .before .decode .ensures) (c .packet-out .ensures)
+returns c = c .split .ensures
 
 pub scion-read-packet-spec : {M : Type 1} → statement M
-scion-read-packet-spec =
-    tie.close (tie.spec (λ c κs. search needs) (λ c κs. search needs) returns)
+scion-read-packet-spec = tie.close (tie.spec (λ c κs. search needs) returns)
