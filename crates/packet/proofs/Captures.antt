@@ -2,24 +2,24 @@
 -- Assumes nothing.
 use mathlib.Core.Path.{_≡_, refl, sym, ap, _∙_}
 use mathlib.Core.Bool.{Bool, true, false, not}
-use mathlib.Core.List.{List, []}
-use Prim.Native.Nat.{ℕ, _*_, _≤_, _<_}
+use mathlib.Core.List.{List}
+use Prim.Native.Nat.{ℕ, _*_, _<_}
 use native.Mathlib.Omega.{arith}
 use lib.ListN.{length, getD, take, drop, length-drop}
 use lib.Dec.{ltb}
-use borrow.Author.Tests.{lt-ltb, le-ltb, ltb-true, ltb-false}
+use borrow.Author.Tests.{lt-ltb, le-ltb, ltb-true}
 use Rattle.wire_encoding.specs.Result.{Result, ok, refused}
-use Rattle.wire_encoding.proofs.Result.{not-both, same-value, held, stepped}
+use Rattle.wire_encoding.proofs.Result.{same-value, held, stepped}
 use Rattle.errors.specs.declared.packet_error.DecodeError.{DecodeError}
 use Rattle.errors.specs.declared.packet_error.DecodeError.the-variants.{PacketEmptyOrTruncated}
 use Rattle.packet_common_header.specs.CommonHeader.{commonAt, readCommon, headerLength}
 use Rattle.packet_common_header.specs.declared.CommonHeader.{CommonHeader}
 use Rattle.packet_common_header.proofs.CommonHeaderLaws.{common-known}
-use Rattle.packet.specs.Raw.{Packet, readRest, isShort, readPacket, readCapture, packetAnswer, captureAnswer}
+use Rattle.packet.specs.Raw.{Packet, isShort, readPacket, readCapture, packetAnswer, captureAnswer}
 use Rattle.packet.specs.Captures.{OfBoth, PartsOfThePacket, PacketsAreCaptures, CapturesArePackets}
 use Rattle.packet.specs.Captures.{ShortOfARefusal, ShortByItsBytes, ShortHasNoPayload}
 use Rattle.packet.specs.Captures.{LongEnoughAlike, CommonHeaderFirst, FewerBytesRefused}
-use Rattle.packet.proofs.RawLaws.{Split, split, path-lies, payload-lies}
+use Rattle.packet.proofs.RawLaws.{split, path-lies, payload-lies}
 
 -- SHORT
 
@@ -81,7 +81,8 @@ pub packets-are-captures : PacketsAreCaptures
 packets-are-captures bytes p h = let l = longer bytes h in (l .captured, short-of bytes (l .captured) ∙ l .long)
 
 -- where the common header is read and not short, the readers go on alike
-pub goes-on : (bytes : List ℕ) {c : CommonHeader} → readCommon bytes ≡ ok c → isShort c bytes ≡ false → readPacket bytes ≡ readCapture bytes
+pub goes-on : (bytes : List ℕ) {c : CommonHeader} → readCommon bytes ≡ ok c → isShort c bytes ≡ false
+    → readPacket bytes ≡ readCapture bytes
 unfolding readPacket readCapture
 goes-on bytes common long = rw (common, long)
 

@@ -26,7 +26,7 @@ use Rattle.packet_address_header.specs.AddressHeader.{zeroAddress, addressLengt
 use Rattle.packet_address_header.specs.declared.AddressHeader.{AddressHeader}
 use Rattle.packet_address_header.specs.declared.AddressHeaderRead.{AddressHeaderRead}
 use Rattle.packet_address_header.proofs.AddressHeaderLaws.{address-known, address-length}
-use Rattle.packet.specs.Raw.{Packet, readRest, isShort, readPacket, readCapture, pathPart, payloadPart, packetAnswer}
+use Rattle.packet.specs.Raw.{Packet, readRest, isShort, readPacket, readCapture, readerOf, pathPart, payloadPart, packetAnswer}
 
 -- WHAT A STAGE HANDED BACK
 
@@ -63,7 +63,7 @@ short-handed (refused error) bytes = le-ltb (length bytes) 0 (omega arith)
 
 -- refused with the common header
 pub first-refused : (capture : Bool) (bytes : List ℕ) {error : DecodeError} → readCommon bytes ≡ refused error
-    → cond capture (readCapture bytes) (readPacket bytes) ≡ refused error
+    → readerOf capture bytes ≡ refused error
 unfolding readPacket readCapture
 first-refused true bytes common = rw common
 first-refused false bytes common = rw common
@@ -71,7 +71,7 @@ first-refused false bytes common = rw common
 -- refused for being short, a packet alone
 pub then-short : (capture : Bool) (bytes : List ℕ) {c : CommonHeader} → readCommon bytes ≡ ok c
     → cond capture false (ltb (length bytes) (headerLength c)) ≡ true
-    → cond capture (readCapture bytes) (readPacket bytes) ≡ refused PacketEmptyOrTruncated
+    → readerOf capture bytes ≡ refused PacketEmptyOrTruncated
 unfolding readPacket isShort
 then-short true bytes common short = let z : _≡_ {A = ℕ} 0 1 = cc in absurd (omega arith)
 then-short false bytes common short = rw (common, short)
@@ -79,7 +79,7 @@ then-short false bytes common short = rw (common, short)
 -- read on
 pub then-rest : (capture : Bool) (bytes : List ℕ) {c : CommonHeader} → readCommon bytes ≡ ok c
     → cond capture false (ltb (length bytes) (headerLength c)) ≡ false
-    → cond capture (readCapture bytes) (readPacket bytes) ≡ readRest c bytes
+    → readerOf capture bytes ≡ readRest c bytes
 unfolding readPacket readCapture isShort
 then-rest true bytes common long = rw common
 then-rest false bytes common long = rw (common, long)

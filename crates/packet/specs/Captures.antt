@@ -64,7 +64,8 @@ LongEnoughAlike = (bytes : List ℕ) → 4 * getD bytes 5 0 ≤ length bytes →
 
 -- nor where the common header is refused
 abbrev pub CommonHeaderFirst : Type 0
-CommonHeaderFirst = (error : DecodeError) → OfBoth (λ read. (bytes : List ℕ) → readCommon bytes ≡ refused error → read bytes ≡ refused error)
+CommonHeaderFirst =
+    (error : DecodeError) → OfBoth (λ read. (bytes : List ℕ) → readCommon bytes ≡ refused error → read bytes ≡ refused error)
 
 -- everywhere else the reader of packets answers 1
 abbrev pub FewerBytesRefused : Type 0

@@ -1,6 +1,6 @@
 -- A packet: the draft's Common Header, Address Header, path and payload, one after the other.
 use Prim.Native.Nat.{ℕ, _+_}
-use mathlib.Core.Bool.{Bool, false, not}
+use mathlib.Core.Bool.{Bool, false, not, cond}
 use mathlib.Core.List.{List, []}
 use lib.ListN.{length, take, drop}
 use lib.Dec.{ltb, leb, eqb}
@@ -59,6 +59,10 @@ unfoldable pub readCapture : List ℕ → Result DecodeError Packet
 readCapture bytes = do
   common ← readCommon bytes
   readRest common bytes
+
+-- the one or the other
+abbrev pub readerOf : Bool → List ℕ → Result DecodeError Packet
+readerOf capture bytes = cond capture (readCapture bytes) (readPacket bytes)
 
 -- WHAT IS HANDED BACK
 

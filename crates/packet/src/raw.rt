@@ -115,7 +115,7 @@ impl ScionPacketRaw {
 
     // Splits the packet that begins `bytes`, or the capture; the bytes after its payload are no part of it.
     pub fn split(bytes: &[u8], capture: bool) -> ScionPacketRaw
-        ensures { λ r. ⌜ r ≡ spec.packetAnswer (cond capture (spec.readCapture (now (bytes .entry))) (spec.readPacket (now (bytes .entry)))) ⌝ }
+        ensures { λ r. ⌜ r ≡ spec.packetAnswer (spec.readerOf capture (now (bytes .entry))) ⌝ }
     {
         let common_read = CommonHeader::decode(bytes);
         let answer = common_read.answer;

@@ -13,17 +13,16 @@ use scion_packets::headers_out;
 use scion_packets::packet_out;
 use scion_paths::ScionAnswer;
 ghost use mathlib.Core.Path.{_≡_};
-ghost use mathlib.Core.Bool.{cond};
 ghost use lib.ListN.{length};
 ghost use Rattle.wire_encoding.specs.Result.{orElse};
 ghost use Rattle.errors.specs.Errors.{encodedOf};
-ghost use Rattle.packet.specs.Raw.{readPacket, readCapture, packetAnswer, captureAnswer};
+ghost use Rattle.packet.specs.Raw.{readPacket, readerOf, packetAnswer, captureAnswer};
 ghost use Rattle.packet_headers.specs.Headers as headers;
 ghost use Rattle.scion_packets.specs.Packets as spec;
 
 // A packet, or a capture, for C: one function for both, so that its code is there once.
 fn split(bytes: &[u8], capture: bool) -> ScionPacket
-    ensures { λ r. ⌜ r ≡ spec.packetOut (packetAnswer (cond capture (readCapture (now (bytes .entry))) (readPacket (now (bytes .entry))))) ⌝ }
+    ensures { λ r. ⌜ r ≡ spec.packetOut (packetAnswer (readerOf capture (now (bytes .entry)))) ⌝ }
 {
     packet_out(ScionPacketRaw::split(bytes, capture))
 }

@@ -31,4 +31,7 @@ parts-in-order bytes p s =
     (sym (part-join (12 + n) m k bytes) ∙ ap₂ (λ (x y : List ℕ). x ++ y) (path-lies s) (payload-lies s))
 
 pub in-order : OfBoth InOrder
-in-order = (λ bytes p read. parts-in-order bytes p (split bytes (packet-captured bytes read)), λ bytes p read. parts-in-order bytes p (split bytes read))
+in-order = (
+  λ bytes p read. parts-in-order bytes p (split bytes (packet-captured bytes read)),
+  λ bytes p read. parts-in-order bytes p (split bytes read),
+)

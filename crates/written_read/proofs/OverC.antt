@@ -56,5 +56,6 @@ writes-again-over-c =
     rw (parts-of-the-packet .0 bytes p read .0, read, headers-back bytes (small-bytes bytes small) p (split bytes (packet-captured bytes read)))
     (writes-again .0 bytes p small read) in
     let capture : WritesAgainOverC readCapture = λ bytes p small read.
-    rw (parts-of-the-packet .1 bytes p read .0, read, headers-back bytes (small-bytes bytes small) p (split bytes read)) (writes-again .1 bytes p small read) in
+    rw (parts-of-the-packet .1 bytes p read .0, read, headers-back bytes (small-bytes bytes small) p (split bytes read))
+    (writes-again .1 bytes p small read) in
     (packet, capture)

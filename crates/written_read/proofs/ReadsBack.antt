@@ -110,8 +110,12 @@ module _ (h : ScionHeaders) (path : List ℕ) (stored : StandardPath) (size : �
       ap (drop (12 + n)) (sym (append-assoc x y z)) ∙ drop-at (x ++ y) z (12 + n) (simp length-append (omega arith))
 
   -- all of it, where 4 × factor takes the headers and leaves what follows
-  all-read : (payload : List ℕ) → take (headerLength (commonOf h)) packet ≡ headerBytes h path → drop (headerLength (commonOf h)) packet ≡ tail
-      → h .«payload_length» ≤ length tail → take (h .«payload_length») tail ≡ payload → readCapture packet ≡ ok (packetOf h path stored payload)
+  all-read : (payload : List ℕ)
+      → take (headerLength (commonOf h)) packet ≡ headerBytes h path
+      → drop (headerLength (commonOf h)) packet ≡ tail
+      → h .«payload_length» ≤ length tail
+      → take (h .«payload_length») tail ≡ payload
+      → readCapture packet ≡ ok (packetOf h path stored payload)
   unfolding packetOf commonOf
   all-read payload taken left room own =
       capture-accepted packet (headerBytes h path) tail z payload (commonOf h) (addressRead (h .address)) stored reads-common
