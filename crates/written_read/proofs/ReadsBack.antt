@@ -192,8 +192,8 @@ module _ (h : ScionHeaders) (path : List ℕ) (stored : StandardPath) (size : �
       ∙ all-read h path stored size [] t (m .version) at-least (m .path-read) k []
       (ap (take n) alone ∙ take-all n written all)
       (ap (drop n) alone ∙ drop-of-length-le written {i = n} all)
-      (omega (arith, m .unpaid))
-      (ap (λ (j : ℕ). take j []) (m .unpaid))
+      (omega (arith, m .no-payload))
+      (ap (λ (j : ℕ). take j []) (m .no-payload))
 
   marked : captureAnswer written ≡ record { packet = packetAnswer (ok (packetOf h path stored [])); short = true }
   unfolding captureAnswer packetOf

@@ -91,7 +91,7 @@ pub record SaysMore (h : ScionHeaders) (path : List ℕ) (stored : StandardPath)
   pub version : h .version ≡ 0
   pub more : headersLength (h .address) (h .«path_type») (length path) < 4 * h .«header_length_factor»
   pub path-read : ReadWhole (h .«path_type») (addedBytes (h .«path_type») path) stored
-  pub unpaid : h .«payload_length» ≡ 0
+  pub no-payload : h .«payload_length» ≡ 0
 
 -- where nothing follows them they are refused with 1 as a packet; as a capture they are read back, and it is short
 abbrev pub ReadsBackShort : Type 0
