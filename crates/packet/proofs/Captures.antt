@@ -19,7 +19,7 @@ use Rattle.packet.specs.Raw.{Packet, isShort, readPacket, readCapture, p
 use Rattle.packet.specs.Captures.{OfBoth, PartsOfThePacket, PacketsAreCaptures, CapturesArePackets}
 use Rattle.packet.specs.Captures.{ShortOfARefusal, ShortByItsBytes, ShortHasNoPayload}
 use Rattle.packet.specs.Captures.{LongEnoughAlike, CommonHeaderFirst, FewerBytesRefused}
-use Rattle.packet.proofs.RawLaws.{split, path-lies, payload-lies}
+use Rattle.packet.proofs.RawLaws.{first-refused, then-short, then-rest, split, path-lies, payload-lies}
 
 -- SHORT
 
@@ -83,8 +83,8 @@ packets-are-captures bytes p h = let l = longer bytes h in (l .captured, short-o
 -- where the common header is read and not short, the readers go on alike
 pub goes-on : (bytes : List ℕ) {c : CommonHeader} → readCommon bytes ≡ ok c → isShort c bytes ≡ false
     → readPacket bytes ≡ readCapture bytes
-unfolding readPacket readCapture
-goes-on bytes common long = rw (common, long)
+unfolding isShort
+goes-on bytes common long = then-rest false bytes common long ∙ sym (then-rest true bytes common refl)
 
 pub captures-are-packets : CapturesArePackets
 captures-are-packets bytes p h long = goes-on bytes (split bytes h .common) (sym (short-of bytes h) ∙ long) ∙ h
@@ -100,8 +100,7 @@ parts-of-the-packet =
 -- WHERE THE READERS PART
 
 pub common-header-first : CommonHeaderFirst
-unfolding readPacket readCapture
-common-header-first error = (λ bytes h. rw h, λ bytes h. rw h)
+common-header-first error = (λ bytes h. first-refused false bytes h, λ bytes h. first-refused true bytes h)
 
 pub long-enough-alike : LongEnoughAlike
 unfolding isShort
@@ -114,8 +113,8 @@ long-enough-alike bytes long = go (readCommon bytes) refl
 -- where it is read and short, the reader of packets stops
 pub short-refused : (bytes : List ℕ) {c : CommonHeader} → readCommon bytes ≡ ok c → isShort c bytes ≡ true
     → readPacket bytes ≡ refused PacketEmptyOrTruncated
-unfolding readPacket
-short-refused bytes common short = rw (common, short)
+unfolding isShort
+short-refused bytes common short = then-short false bytes common short
 
 pub fewer-bytes-refused : FewerBytesRefused
 unfolding isShort
