@@ -82,6 +82,10 @@ fn raw_host_address(bytes: &[u8], at: usize, len: usize) -> [u8; 16]
     ensures { λ r. ⌜ r ≡ spec.padded (now (bytes .entry)) at len ⌝ }
 {
     let mut host = [0; 16];
+    if len == 4 {
+        put_slice(&mut host, 0, &bytes[at..at + 4]);
+        return host;
+    }
     put_slice(&mut host, 0, &bytes[at..at + len]);
     host
 }
