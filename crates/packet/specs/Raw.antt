@@ -60,7 +60,7 @@ readCapture bytes = do
   common ← readCommon bytes
   readRest common bytes
 
--- the one or the other
+-- the reader of captures, or that of packets
 abbrev pub readerOf : Bool → List ℕ → Result DecodeError Packet
 readerOf capture bytes = cond capture (readCapture bytes) (readPacket bytes)
 

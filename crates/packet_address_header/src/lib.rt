@@ -76,7 +76,7 @@ pub struct WireAddress {
     pub source: WireHost,
 }
 
-// The `len` bytes at `at`, then zeros.
+// The `len` bytes at `at`, then zeros. Four, which most hosts have, are a length that the compiler copies as one word.
 fn raw_host_address(bytes: &[u8], at: usize, len: usize) -> [u8; 16]
     requires { ⌜ (len ≤ 16) × (at + len ≤ length (now bytes)) ⌝ }
     ensures { λ r. ⌜ r ≡ spec.padded (now (bytes .entry)) at len ⌝ }
