@@ -5,7 +5,7 @@ ghost use Rattle.address.specs.Host.{host_type_of, host_type_number, type_of_hos
 use crate::service::ServiceAddr;
 
 // An IPv4 or IPv6 host, whose bytes stand beside it, or a service.
-#[derive(Drop)]
+#[derive(Clone, Copy)]
 pub enum HostAddr {
     V4,
     V6,
@@ -13,7 +13,7 @@ pub enum HostAddr {
 }
 
 // The kinds of host that have a name. Their numbers, 0 to 3, are not the host kinds on the wire.
-#[derive(Drop)]
+#[derive(Clone, Copy)]
 pub enum HostType {
     None,
     Ipv4,
@@ -22,14 +22,14 @@ pub enum HostType {
 }
 
 // A host type, or a byte that names none.
-#[derive(Drop)]
+#[derive(Clone, Copy)]
 pub enum HostTypeRead {
     Known(HostType),
     Unknown,
 }
 
 // The host kind on the wire, 4 bits, or none.
-#[derive(Drop)]
+#[derive(Clone, Copy)]
 pub enum HostKind {
     Kind(u8),
     Absent,

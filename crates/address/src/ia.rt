@@ -2,11 +2,11 @@
 ghost use Rattle.std.specs.Prelude.{◌≡◌};
 ghost use Rattle.address.specs.Ia.{isd_of, asn_of, is_wildcard, joined, answer_isd_asn};
 
-#[derive(Drop)]
+#[derive(Clone, Copy)]
 pub struct IsdAsn(pub u64);
 
 // An identifier, or an AS number wider than its 48 bits.
-#[derive(Drop)]
+#[derive(Clone, Copy)]
 pub enum NewIsdAsn {
     Value(IsdAsn),
     TooWide,

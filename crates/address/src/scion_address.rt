@@ -7,7 +7,7 @@ use crate::host::HostAddr;
 use crate::ia::IsdAsn;
 
 // `bytes` begins with the bytes of an IP address; a service's stand in `host`.
-#[derive(Drop)]
+#[derive(Clone, Copy)]
 pub struct ScionAddr {
     pub isd_asn: IsdAsn,
     pub host: HostAddr,

@@ -1,1 +1,2 @@
 // Theorems alone: packets that are read alike, and which packets are accepted. specs/ states them.
+#![tactic(auto)]

@@ -5,7 +5,7 @@ ghost use Rattle.errors.specs.Errors.{decode_number, decode_value, encode_number
 use crate::path_error::DataplanePathErrorKind;
 
 // Why bytes can't be read.
-#[derive(Drop)]
+#[derive(Clone, Copy)]
 pub enum DecodeError {
     PacketEmptyOrTruncated,
     UnsupportedVersion(u8),
@@ -15,14 +15,14 @@ pub enum DecodeError {
 }
 
 // Whether bytes were read.
-#[derive(Drop)]
+#[derive(Clone, Copy)]
 pub enum Decoded {
     Accepted,
     Refused(DecodeError),
 }
 
 // Why headers can't be written.
-#[derive(Drop)]
+#[derive(Clone, Copy)]
 pub enum EncodeError {
     // A number wider than its field.
     NumberTooWide,
@@ -35,7 +35,7 @@ pub enum EncodeError {
 }
 
 // Whether headers were written: all of them, or nothing.
-#[derive(Drop)]
+#[derive(Clone, Copy)]
 pub enum Encoded {
     Done,
     Refused(EncodeError),

@@ -5,7 +5,7 @@ ghost use Rattle.errors.specs.Errors.{kind_number, path_number, path_value};
 use crate::packet_error::DecodeError;
 
 // What is wrong with a meta header.
-#[derive(Drop)]
+#[derive(Clone, Copy)]
 pub enum DataplanePathErrorKind {
     InvalidSegmentLengths,
     InfoFieldOutOfRange,
@@ -13,7 +13,7 @@ pub enum DataplanePathErrorKind {
 }
 
 // Why a call on a path is refused.
-#[derive(Drop)]
+#[derive(Clone, Copy)]
 pub enum PathError {
     Decode(DecodeError),
     NoSuchField,
@@ -25,7 +25,7 @@ pub enum PathError {
 }
 
 // Whether a call was carried out.
-#[derive(Drop)]
+#[derive(Clone, Copy)]
 pub enum Answer {
     Accepted,
     Refused(PathError),

@@ -1,5 +1,6 @@
 // Executes the calls on standard input, one to a line, and prints each line, then ` => ` and its answer.
 // An empty line and one that begins with `#` are copied. The comment of a call's function, or of its arm in calls.rt, says its words.
+#![tactic(auto)]
 mod calls;
 mod fields;
 mod meta_headers;

@@ -10,7 +10,7 @@ use check::same;
 pub const MOST_BYTES: usize = 2400;
 
 // A number that was read, or a word that is none.
-#[derive(Drop)]
+#[derive(Clone, Copy)]
 enum Parsed {
     Value(u64),
     Malformed,

@@ -2,6 +2,7 @@
 // short, having fewer bytes than its headers say, for a station refuses such a packet. Each argument names a file that holds one packet;
 // without arguments the packet is on standard input. A packet is at most 65,536 bytes here.
 // Standard error stays empty unless a file can't be looked at; a Rattle program can't set its exit status, which is always 0.
+#![tactic(auto)]
 mod header_lines;
 mod path_lines;
 mod refusal;

@@ -1,2 +1,3 @@
 // Packets as bytes: the split into headers, path and payload.
+#![tactic(auto)]
 pub mod raw;

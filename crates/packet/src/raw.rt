@@ -13,7 +13,7 @@ use path::standard::{Part, StandardPath};
 use wire_encoding::read::part_of;
 
 // A packet that was split: its headers, the record of its path, and where its path and its payload lie; all zero where it was refused.
-#[derive(Drop)]
+#[derive(Clone, Copy)]
 pub struct ScionPacketRaw {
     pub answer: Decoded,
     pub common: CommonHeader,
@@ -24,7 +24,7 @@ pub struct ScionPacketRaw {
 }
 
 // A capture that was split, and whether it is short: whether it has fewer than 4 times the factor bytes; no where it was refused.
-#[derive(Drop)]
+#[derive(Clone, Copy)]
 pub struct CaptureRead {
     pub packet: ScionPacketRaw,
     pub short: bool,

@@ -1,5 +1,6 @@
 // The address header of a packet, by value: the networks and the hosts of both ends, read from bytes and written as bytes. To be
 // written, a host's kind and bytes are taken out of its enum once.
+#![tactic(auto)]
 ghost use Rattle.std.specs.Prelude.{◌≡◌, ◌+◌, ◌/◌, ◌%◌, ◌≤◌, length};
 ghost use Rattle.std.proofs.lemmas.List.Edits.{sets};
 ghost use Rattle.wire_encoding.specs.Answers.{put_answer};
@@ -19,7 +20,7 @@ use wire_encoding::read::{u16_or_zero, u32_or_zero, u64_or_zero};
 use wire_encoding::write::{Put, put_slice, put_u16, put_u32, put_u64};
 
 // A host of a kind that has a name, or another kind.
-#[derive(Drop)]
+#[derive(Clone, Copy)]
 pub enum MaybeEncoded {
     Decoded(HostAddr),
     Encoded(u8),
@@ -27,14 +28,14 @@ pub enum MaybeEncoded {
 
 // A host and the bytes beside it: they begin with the host's own, the others are zero. A service's number stands in `host`, and in
 // `padding` the two bytes that follow it on the wire; no other host has a padding, and there it is zero.
-#[derive(Drop)]
+#[derive(Clone, Copy)]
 pub struct HostAddress {
     pub host: MaybeEncoded,
     pub bytes: [u8; 16],
     pub padding: u16,
 }
 
-#[derive(Drop)]
+#[derive(Clone, Copy)]
 pub struct AddressHeader {
     pub destination_ia: IsdAsn,
     pub source_ia: IsdAsn,
@@ -43,7 +44,7 @@ pub struct AddressHeader {
 }
 
 // An address header that was read, and its length in bytes; all zero where it was refused.
-#[derive(Drop)]
+#[derive(Clone, Copy)]
 pub struct AddressHeaderRead {
     pub answer: Decoded,
     pub header: AddressHeader,
@@ -51,21 +52,21 @@ pub struct AddressHeaderRead {
 }
 
 // The address of an end whose host has a name; all zero where it has none.
-#[derive(Drop)]
+#[derive(Clone, Copy)]
 pub struct EndhostAddr {
     pub known: bool,
     pub address: ScionAddr,
 }
 
 // A host as it is on the wire: its kind, and sixteen bytes that begin with its own.
-#[derive(Drop)]
+#[derive(Clone, Copy)]
 pub struct WireHost {
     pub kind: u8,
     pub bytes: [u8; 16],
 }
 
 // An address header as it is on the wire.
-#[derive(Drop)]
+#[derive(Clone, Copy)]
 pub struct WireAddress {
     pub destination_ia: u64,
     pub source_ia: u64,

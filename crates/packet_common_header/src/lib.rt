@@ -1,4 +1,5 @@
 // The common header of a packet, by value: read from bytes, and written as bytes.
+#![tactic(auto)]
 ghost use Rattle.std.specs.Prelude.{◌≡◌, ◌≤◌, ◌<◌, length};
 ghost use Rattle.packet_common_header.specs.CommonHeader as spec;
 ghost use Rattle.wire_encoding.specs.Result.{or_else, refused};
@@ -9,7 +10,7 @@ use wire_encoding::read::{u16_or_zero, u32_or_zero, wide};
 use wire_encoding::write::put_slice;
 
 // Every field, whatever its value. The host kinds are of 4 bits, as the version; the flow is of 20.
-#[derive(Drop)]
+#[derive(Clone, Copy)]
 pub struct CommonHeader {
     pub version: u8,
     pub traffic_class: u8,
@@ -24,14 +25,14 @@ pub struct CommonHeader {
 }
 
 // A common header that was read; all zero where it was refused.
-#[derive(Drop)]
+#[derive(Clone, Copy)]
 pub struct CommonHeaderRead {
     pub answer: Decoded,
     pub header: CommonHeader,
 }
 
 // A host kind: 0 IPv4, 3 IPv6, 4 service, any other opaque.
-#[derive(Drop)]
+#[derive(Clone, Copy)]
 pub struct AddressInfo(pub u8);
 
 impl AddressInfo {

@@ -1,4 +1,5 @@
 // All headers of a packet, put together and written.
+#![tactic(auto)]
 ghost use Rattle.std.specs.Prelude.{◌≡◌, ◌+◌, eqb, length};
 ghost use Rattle.wire_encoding.specs.Result.{or_else};
 ghost use Rattle.errors.specs.Errors.{encoded_of};
@@ -11,7 +12,7 @@ use wire_encoding::write::put_slice;
 
 // The headers of a packet but for its path, which stands beside them. The host kinds are the hosts' own. Factor and payload
 // length may be any number: the encoder tests them.
-#[derive(Drop)]
+#[derive(Clone, Copy)]
 pub struct ScionHeaders {
     pub version: u8,
     pub traffic_class: u8,

@@ -19,7 +19,7 @@ use wire_encoding::flags::{with_bit_0, with_bit_1};
 use wire_encoding::read::part_of;
 
 // A path that was read by its type: its record, zero unless the type is 1, and how many of the bytes are the path's.
-#[derive(Drop)]
+#[derive(Clone, Copy)]
 pub struct DataplaneRead {
     pub answer: Decoded,
     pub path: StandardPath,
@@ -27,14 +27,14 @@ pub struct DataplaneRead {
 }
 
 // Whether a call was carried out, and the record of the path as the call leaves it.
-#[derive(Drop)]
+#[derive(Clone, Copy)]
 pub struct PathAnswer {
     pub answer: Answer,
     pub path: StandardPath,
 }
 
 // Where a field lies in the path's bytes; all zero where it was refused.
-#[derive(Drop)]
+#[derive(Clone, Copy)]
 pub struct Located {
     pub answer: Answer,
     pub path: StandardPath,
@@ -42,7 +42,7 @@ pub struct Located {
 }
 
 // A path by its type byte: 0 empty, 1 standard, any other opaque. The path's bytes stand beside it.
-#[derive(Drop)]
+#[derive(Clone, Copy)]
 pub struct DataplanePath {
     pub path_type: u8,
 }

@@ -16,14 +16,14 @@ pub mod time_left;
 // The record of a path that was read: its meta header, and when it expires, in ms since 1970. Its bytes stay with the caller.
 // Where a path was refused, or is not a standard path, the record is all zero, and the 0 is no expiry.
 #[repr(C)]
-#[derive(Drop)]
+#[derive(Clone, Copy)]
 pub struct StandardPath {
     pub meta_header: PathMetaHeader,
     pub expiry: u64,
 }
 
 // A path that was read; its record is all zero where it was refused.
-#[derive(Drop)]
+#[derive(Clone, Copy)]
 pub struct PathRead {
     pub answer: Decoded,
     pub path: StandardPath,
@@ -31,7 +31,7 @@ pub struct PathRead {
 
 // A part of the caller's bytes.
 #[repr(C)]
-#[derive(Drop)]
+#[derive(Clone, Copy)]
 pub struct Part {
     pub start: usize,
     pub len: usize,

@@ -1,4 +1,5 @@
 // How long a path is valid: the expiry of its segments and of the whole path, and the time left.
+#![tactic(auto)]
 ghost use Rattle.std.specs.Prelude.{◌≡◌};
 ghost use Rattle.wire_encoding.specs.Result.{refused};
 ghost use Rattle.errors.specs.declared.path_error.Answer.TheVariants as answers;
@@ -14,7 +15,7 @@ use path::standard::time_left::TimeLeft;
 use path_least_expiry::segment_expiry_or_zero;
 
 // An expiry in ms since 1970; all zero where it was refused.
-#[derive(Drop)]
+#[derive(Clone, Copy)]
 pub struct Expiry {
     pub answer: Answer,
     pub path: StandardPath,

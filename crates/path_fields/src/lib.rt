@@ -1,4 +1,5 @@
 // The info fields and hop fields of a standard path, read from parts of exactly 8 and 12 bytes.
+#![tactic(auto)]
 ghost use Rattle.std.specs.Prelude.{◌≡◌, ◌+◌, ◌≤◌};
 ghost use Rattle.wire_encoding.specs.Bits.{bit_of};
 ghost use Rattle.path_fields.specs.Fields as spec;
@@ -8,7 +9,7 @@ use wire_encoding::flags::{with_bit_0, with_bit_1};
 use wire_encoding::read::{part_of, u16_or_zero, u32_or_zero};
 
 // The head of a segment.
-#[derive(Drop)]
+#[derive(Clone, Copy)]
 pub struct InfoField {
     pub flags: u8,
     pub reserved: u8,
@@ -17,14 +18,14 @@ pub struct InfoField {
 }
 
 // An info field that was read; all zero where the part was not of 8 bytes.
-#[derive(Drop)]
+#[derive(Clone, Copy)]
 pub struct InfoFieldRead {
     pub answer: Answer,
     pub field: InfoField,
 }
 
 // One network's entry in a segment; `mac` is its code.
-#[derive(Drop)]
+#[derive(Clone, Copy)]
 pub struct HopField {
     pub flags: u8,
     pub exp_time: u8,
@@ -34,14 +35,14 @@ pub struct HopField {
 }
 
 // A hop field that was read; all zero where the part was not of 12 bytes.
-#[derive(Drop)]
+#[derive(Clone, Copy)]
 pub struct HopFieldRead {
     pub answer: Answer,
     pub field: HopField,
 }
 
 // The number of an interface; 0 on the wire means none.
-#[derive(Drop)]
+#[derive(Clone, Copy)]
 pub enum Interface {
     None,
     Id(u16),

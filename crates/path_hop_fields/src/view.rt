@@ -5,13 +5,13 @@ ghost use Rattle.path_hop_fields.specs.Run as spec;
 use crate::run::{after_first, before_last, count, first, last, whole};
 use path_fields::HopField;
 
-#[derive(Drop)]
+#[derive(Clone, Copy)]
 pub struct HopFields<'a> {
     run: &'a [u8],
 }
 
 // What is read at the front of a run, what is then read at its back, and how many hop fields are left between.
-#[derive(Drop)]
+#[derive(Clone, Copy)]
 pub struct Ends {
     pub first: HopField,
     pub last: HopField,

@@ -1,4 +1,5 @@
 // The interfaces of a path in the order of travel.
+#![tactic(auto)]
 ghost use Rattle.std.specs.Prelude.{◌≡◌};
 ghost use Rattle.wire_encoding.specs.Result.{refused};
 ghost use Rattle.path_meta_header.specs.MetaHeader as meta;
@@ -15,7 +16,7 @@ use path_fields::{HopField, InfoField, Interface};
 use path_meta_header::{HopFieldOf, PathMetaHeader};
 
 // The number of interfaces; all zero where it was refused.
-#[derive(Drop)]
+#[derive(Clone, Copy)]
 pub struct InterfaceCount {
     pub answer: Answer,
     pub path: StandardPath,
@@ -23,7 +24,7 @@ pub struct InterfaceCount {
 }
 
 // An interface and the hop field that it belongs to; all zero where it was refused.
-#[derive(Drop)]
+#[derive(Clone, Copy)]
 pub struct InterfaceAt {
     pub answer: Answer,
     pub path: StandardPath,

@@ -1,4 +1,5 @@
 // The meta header of a standard path, by value: read, written, reversed.
+#![tactic(auto)]
 ghost use Rattle.std.specs.Prelude.{◌≡◌, ◌≤◌, ◌<◌, ◌∷◌, [], length};
 ghost use Rattle.wire_encoding.specs.Result.{refused, or_else};
 ghost use Rattle.errors.specs.Errors.{encoded_of};
@@ -24,7 +25,7 @@ pub type SegmentLength = U6;
 pub type PathMetaReserved = U6;
 
 // A header as one number, or a field wider than its bits.
-#[derive(Drop)]
+#[derive(Clone, Copy)]
 pub enum Word {
     Value(u32),
     TooWide,
@@ -32,7 +33,7 @@ pub enum Word {
 
 // The pointers, the reserved bits and the three segment lengths. Each may hold any byte: writing one tests their widths.
 #[repr(C)]
-#[derive(Drop)]
+#[derive(Clone, Copy)]
 pub struct PathMetaHeader {
     pub current_info_field: u8,
     pub current_hop_field: u8,
@@ -41,21 +42,21 @@ pub struct PathMetaHeader {
 }
 
 // A meta header that was read; all zero where it was refused.
-#[derive(Drop)]
+#[derive(Clone, Copy)]
 pub struct MetaRead {
     pub answer: Decoded,
     pub meta_header: PathMetaHeader,
 }
 
 // Where a field starts, or no such field.
-#[derive(Drop)]
+#[derive(Clone, Copy)]
 pub enum Offset {
     At(usize),
     NoSuchField,
 }
 
 // The index of a hop field, or no such interface.
-#[derive(Drop)]
+#[derive(Clone, Copy)]
 pub enum HopFieldOf {
     Index(usize),
     NoSuchInterface,

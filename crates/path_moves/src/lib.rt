@@ -1,4 +1,5 @@
 // Moves: how a packet's path goes from hop field to hop field. Move, walk, owner and spared are document 01's words.
+#![tactic(auto)]
 ghost use Rattle.std.specs.Prelude.{◌≡◌, ◌+◌, ◌≤◌, ◌<◌, length};
 ghost use Rattle.path.specs.Standard.{info_at};
 ghost use Rattle.path_meta_header.specs.MetaHeader.{path_length, info_start};
@@ -97,21 +98,21 @@ pub fn is_spared(info_field: InfoField, owner: usize, first_length: usize) -> bo
 }
 
 // The pair of pointers in a path's bytes.
-#[derive(Drop)]
+#[derive(Clone, Copy)]
 pub struct Position {
     pub current_info_field: u8,
     pub current_hop_field: u8,
 }
 
 // A move: the new position, and what the accumulator of the segment that was left changes by.
-#[derive(Drop)]
+#[derive(Clone, Copy)]
 pub struct Moved {
     pub position: Position,
     pub change: u16,
 }
 
 // A walk: how many moves it made, and whether it stands at the last hop field; all zero where it was refused.
-#[derive(Drop)]
+#[derive(Clone, Copy)]
 pub struct WalkAnswer {
     pub answer: Answer,
     pub path: StandardPath,
@@ -134,7 +135,7 @@ impl WalkAnswer {
 }
 
 // How many moves a walk made, and the header that it left.
-#[derive(Drop)]
+#[derive(Clone, Copy)]
 pub struct Walked {
     pub meta_header: PathMetaHeader,
     pub moves: usize,

@@ -1,4 +1,5 @@
 // Path reversal, which document 01 calls a turn, and copying: a path written into lent bytes.
+#![tactic(auto)]
 ghost use Rattle.std.specs.Prelude.{◌≡◌, true, ◌++◌, ◌+◌, ◌*◌, ◌≤◌, length, drop};
 ghost use Rattle.std.proofs.lemmas.List.Edits.{sets};
 ghost use Rattle.errors.specs.declared.path_error.Answer.TheVariants as answers;
@@ -18,7 +19,7 @@ use wire_encoding::read::{part_of, u32_or_zero, u64_or_zero};
 use wire_encoding::write::{put_slice, put_u32, put_u64};
 
 // Whether a path was written, the record of the path as written, and how many bytes it has: the front of the destination.
-#[derive(Drop)]
+#[derive(Clone, Copy)]
 pub struct WrittenPath {
     pub answer: Answer,
     pub path: StandardPath,

@@ -1,4 +1,5 @@
 // What calls on packets take from C and hand to it, in the layout of include/scion_proto.h, and how it is made.
+#![tactic(auto)]
 ghost use Rattle.std.specs.Prelude.{◌≡◌, ◌*◌, ltb};
 ghost use Rattle.scion_packets.specs.Packets as spec;
 
@@ -15,7 +16,7 @@ use wire_encoding::read::wide;
 
 // A host: its kind on the wire, a service's number and padding, or the first bytes of `bytes`.
 #[repr(C)]
-#[derive(Drop)]
+#[derive(Clone, Copy)]
 pub struct ScionHost {
     pub kind: u8,
     pub service: u16,
@@ -25,7 +26,7 @@ pub struct ScionHost {
 
 // A packet that was split: every value of its headers, and where its path and its payload lie.
 #[repr(C)]
-#[derive(Drop)]
+#[derive(Clone, Copy)]
 pub struct ScionPacket {
     pub answer: ScionAnswer,
     pub path: StandardPath,
@@ -47,7 +48,7 @@ pub struct ScionPacket {
 
 // A capture that was split, and whether it has fewer bytes than its headers say; `short` is a word of C's.
 #[repr(C)]
-#[derive(Drop)]
+#[derive(Clone, Copy)]
 pub struct ScionCapture {
     pub packet: ScionPacket,
     pub is_short: bool,
@@ -55,7 +56,7 @@ pub struct ScionCapture {
 
 // The headers to be written.
 #[repr(C)]
-#[derive(Drop)]
+#[derive(Clone, Copy)]
 pub struct ScionHeaders {
     pub version: u8,
     pub traffic_class: u8,

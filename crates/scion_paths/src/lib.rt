@@ -1,4 +1,5 @@
 // What calls on paths hand to C, in the layout of include/scion_proto.h, and how it is made.
+#![tactic(auto)]
 ghost use Rattle.std.specs.Prelude.{◌≡◌};
 ghost use Rattle.scion_paths.specs.Answer.{answer_out, decoded_out};
 ghost use Rattle.scion_paths.specs.Paths as spec;
@@ -18,7 +19,7 @@ use wire_encoding::read::part_of;
 
 // 0 where the call was carried out, else the number of the refusal; the value is 0 unless the number is 2 or 3.
 #[repr(C)]
-#[derive(Drop)]
+#[derive(Clone, Copy)]
 pub struct ScionAnswer {
     pub number: u8,
     pub value: u8,
@@ -53,7 +54,7 @@ pub fn decoded_out(answer: Decoded) -> ScionAnswer
 
 // Whether a call was carried out, and the record of the path as the call leaves it.
 #[repr(C)]
-#[derive(Drop)]
+#[derive(Clone, Copy)]
 pub struct ScionPathAnswer {
     pub answer: ScionAnswer,
     pub path: StandardPath,
@@ -61,7 +62,7 @@ pub struct ScionPathAnswer {
 
 // A path that was read, and how many of the bytes are the path's.
 #[repr(C)]
-#[derive(Drop)]
+#[derive(Clone, Copy)]
 pub struct ScionPathRead {
     pub answer: ScionAnswer,
     pub path: StandardPath,
@@ -70,7 +71,7 @@ pub struct ScionPathRead {
 
 // Whether a path was written, its record, and how many bytes of the destination it is.
 #[repr(C)]
-#[derive(Drop)]
+#[derive(Clone, Copy)]
 pub struct ScionWrittenPath {
     pub answer: ScionAnswer,
     pub path: StandardPath,
@@ -79,7 +80,7 @@ pub struct ScionWrittenPath {
 
 // An info field and where it starts.
 #[repr(C)]
-#[derive(Drop)]
+#[derive(Clone, Copy)]
 pub struct ScionInfoField {
     pub answer: ScionAnswer,
     pub path: StandardPath,
@@ -92,7 +93,7 @@ pub struct ScionInfoField {
 
 // A hop field and where it starts.
 #[repr(C)]
-#[derive(Drop)]
+#[derive(Clone, Copy)]
 pub struct ScionHopField {
     pub answer: ScionAnswer,
     pub path: StandardPath,
@@ -106,7 +107,7 @@ pub struct ScionHopField {
 
 // A segment: where its info field and its hop fields lie.
 #[repr(C)]
-#[derive(Drop)]
+#[derive(Clone, Copy)]
 pub struct ScionSegment {
     pub answer: ScionAnswer,
     pub path: StandardPath,
@@ -116,7 +117,7 @@ pub struct ScionSegment {
 
 // An expiry in ms since 1970.
 #[repr(C)]
-#[derive(Drop)]
+#[derive(Clone, Copy)]
 pub struct ScionExpiry {
     pub answer: ScionAnswer,
     pub path: StandardPath,
@@ -125,7 +126,7 @@ pub struct ScionExpiry {
 
 // The time left in ms, below zero once the path has expired.
 #[repr(C)]
-#[derive(Drop)]
+#[derive(Clone, Copy)]
 pub struct ScionTimeLeft {
     pub answer: ScionAnswer,
     pub path: StandardPath,
@@ -134,7 +135,7 @@ pub struct ScionTimeLeft {
 
 // The number of interfaces.
 #[repr(C)]
-#[derive(Drop)]
+#[derive(Clone, Copy)]
 pub struct ScionInterfaceCount {
     pub answer: ScionAnswer,
     pub path: StandardPath,
@@ -143,7 +144,7 @@ pub struct ScionInterfaceCount {
 
 // An interface, 0 for none, and the hop field that it belongs to.
 #[repr(C)]
-#[derive(Drop)]
+#[derive(Clone, Copy)]
 pub struct ScionInterface {
     pub answer: ScionAnswer,
     pub path: StandardPath,
@@ -153,7 +154,7 @@ pub struct ScionInterface {
 
 // How many moves a walk made, and whether it stands at the last hop field.
 #[repr(C)]
-#[derive(Drop)]
+#[derive(Clone, Copy)]
 pub struct ScionWalk {
     pub answer: ScionAnswer,
     pub path: StandardPath,

@@ -3,44 +3,44 @@ ghost use Rattle.std.specs.Prelude.{◌≡◌};
 ghost use Rattle.wire_encoding.specs.Bounded.{bounded, answer_u2, answer_u4, answer_u6, answer_u20};
 
 // 2 bits: an info pointer.
-#[derive(Drop)]
+#[derive(Clone, Copy)]
 pub struct U2(u8);
 
 // 4 bits: a version, a host kind.
-#[derive(Drop)]
+#[derive(Clone, Copy)]
 pub struct U4(u8);
 
 // 6 bits: a hop pointer, a reserved field, a segment length.
-#[derive(Drop)]
+#[derive(Clone, Copy)]
 pub struct U6(u8);
 
 // 20 bits: a flow.
-#[derive(Drop)]
+#[derive(Clone, Copy)]
 pub struct U20(u32);
 
 // A 2-bit number, or a value that is wider.
-#[derive(Drop)]
+#[derive(Clone, Copy)]
 pub enum NewU2 {
     Value(U2),
     TooWide,
 }
 
 // A 4-bit number, or a value that is wider.
-#[derive(Drop)]
+#[derive(Clone, Copy)]
 pub enum NewU4 {
     Value(U4),
     TooWide,
 }
 
 // A 6-bit number, or a value that is wider.
-#[derive(Drop)]
+#[derive(Clone, Copy)]
 pub enum NewU6 {
     Value(U6),
     TooWide,
 }
 
 // A 20-bit number, or a value that is wider.
-#[derive(Drop)]
+#[derive(Clone, Copy)]
 pub enum NewU20 {
     Value(U20),
     TooWide,

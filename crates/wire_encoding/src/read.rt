@@ -5,21 +5,21 @@ ghost use Rattle.wire_encoding.specs.Answers.{answer16, answer32, answer64};
 ghost use Rattle.wire_encoding.specs.Result.{or_else};
 
 // A 16-bit number, or too few bytes for it.
-#[derive(Drop)]
+#[derive(Clone, Copy)]
 pub enum Read16 {
     Value(u16),
     Truncated,
 }
 
 // A 32-bit number, or too few bytes for it.
-#[derive(Drop)]
+#[derive(Clone, Copy)]
 pub enum Read32 {
     Value(u32),
     Truncated,
 }
 
 // A 64-bit number, or too few bytes for it.
-#[derive(Drop)]
+#[derive(Clone, Copy)]
 pub enum Read64 {
     Value(u64),
     Truncated,

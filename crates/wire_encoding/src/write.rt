@@ -8,7 +8,7 @@ ghost use Rattle.wire_encoding.specs.Answers.{put_answer};
 use crate::read::has_room;
 
 // Whether the bytes were written: all of them, or none for want of room.
-#[derive(Drop)]
+#[derive(Clone, Copy)]
 pub enum Put {
     Done,
     InadequateBufferSize,

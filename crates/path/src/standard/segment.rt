@@ -8,7 +8,7 @@ use crate::standard::{Part, StandardPath};
 use errors::path_error::{Answer, PathError};
 
 // A segment: where its info field and its hop fields lie; all zero where it was refused.
-#[derive(Drop)]
+#[derive(Clone, Copy)]
 pub struct Segment {
     pub answer: Answer,
     pub path: StandardPath,

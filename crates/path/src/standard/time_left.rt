@@ -10,7 +10,7 @@ use crate::standard::StandardPath;
 use errors::path_error::{Answer, PathError};
 
 // The time left in ms, below zero once the path has expired; all zero where it was refused.
-#[derive(Drop)]
+#[derive(Clone, Copy)]
 pub struct TimeLeft {
     pub answer: Answer,
     pub path: StandardPath,
