@@ -1,0 +1,26 @@
+-- `ScionPacketRaw::split` meets its contract: the common header, of a packet the test for a short one, the rest.
+use mathlib.Core.Path.{◌≡◌, sym, ◌∙◌}
+use Rattle.wire_encoding.specs.Result.{ok}
+use Rattle.packet_common_header.specs.CommonHeader.{read_common}
+use Rattle.packet.proofs.RawLaws.{common_ok, common_refused, first_refused, then_short, then_rest}
+use Rattle.packet.proofs.raw.ScionPacketRaw.split.Goals as goal
+
+pub returns-in-Refused : goal.returns-in-Refused
+returns-in-Refused c =
+    rw (first_refused _ _ (common_refused _ c.decode-common_read.ensures c.in-Refused.is)) c.refused.ensures
+
+-- the common header that was read
+common : (c : goal.After-is_refused) → let s = c.before.before.before.before in
+    read_common s.before.before.args.bytes.now ≡ ok s.decode.result.header
+common c = common_ok _ c.decode-common_read.ensures c.in_default.is
+
+pub returns-then-is_refused : goal.returns-then-is_refused
+returns-then-is_refused c =
+    rw (then_short _ _ (common c.before.before) (sym c.is_refused.ensures ∙ c.if-is_refused.true)) c.refused-then-is_refused.ensures
+
+pub rest-requires : goal.rest-requires
+rest-requires c = common c.before
+
+pub returns : goal.returns
+returns c =
+    rw (then_rest _ _ (common c.before.before) (sym c.is_refused.ensures ∙ c.if-is_refused.false)) c.rest.ensures

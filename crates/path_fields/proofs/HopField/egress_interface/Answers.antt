@@ -1,0 +1,11 @@
+-- `egress_interface` meets its contract: the egress of the construction, or its ingress where the direction is against it.
+use Rattle.path_fields.specs.Fields.{egress_interface}
+use Rattle.path_fields.proofs.HopField.egress_interface.Goals as goal
+
+pub returns-then-is_constructed_dir : goal.returns-then-is_constructed_dir
+unfolding egress_interface
+returns-then-is_constructed_dir c = rw (← c.is_constructed_dir.ensures, c.if-is_constructed_dir.true) c.new.ensures
+
+pub returns : goal.returns
+unfolding egress_interface
+returns c = rw (← c.is_constructed_dir.ensures, c.if-is_constructed_dir.false) c.new-2.ensures

@@ -1,0 +1,17 @@
+-- `segment_expiry_or_zero` meets its contract: by whether the segment is there.
+use mathlib.Core.Path.{sym, ◌∙◌}
+use native.Mathlib.Omega.{arith}
+use Rattle.path_least_expiry.specs.Expiry as spec
+use Rattle.path_least_expiry.proofs.There.{there}
+use Rattle.path_least_expiry.proofs.segment_expiry_or_zero.Goals as goal
+
+pub segment_expiry-requires : goal.segment_expiry-requires
+segment_expiry-requires c = there _ _ _ (sym c.before.is_there_lem.ensures ∙ c.if-is_there.true)
+
+pub returns-then-is_there : goal.returns-then-is_there
+unfolding spec.segment_expiry_or_zero
+returns-then-is_there c = (rw (← c.before.before.is_there_lem.ensures, c.if-is_there.true) c.segment_expiry.ensures.0, c.segment_expiry.ensures.1)
+
+pub returns : goal.returns
+unfolding spec.segment_expiry_or_zero
+returns c = (rw (← c.before.is_there_lem.ensures, c.if-is_there.false), omega arith)

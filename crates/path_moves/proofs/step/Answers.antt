@@ -1,0 +1,22 @@
+-- `step` meets its contract: it applies the move from the header's own position, whose pointers fit their bits.
+use mathlib.Core.Path.{sym, ◌∙◌}
+use native.Mathlib.Omega.{arith}
+use Rattle.path_moves.specs.Moves.{moved_meta}
+use Rattle.path_moves.proofs.Moves.{standing, fits, move-applied}
+use Rattle.path_moves.proofs.step.Goals as goal
+
+pub apply-requires : goal.apply-requires
+apply-requires c =
+    let s = standing _ _ c.requires in
+    record { segment_in_bounds = omega arith; current_info_field_bound = fits _ _ c.requires (rw c.of-position.ensures at c.moved-moved.ensures) }
+
+pub returns : goal.returns
+unfolding moved_meta
+returns c =
+    let bytes = c.type_inv.bytes in
+    let s = standing _ _ c.requires in (
+      c.at_position.ensures ∙ rw (c.moved-moved.ensures, c.of-position.ensures),
+      c.apply.ensures
+          ∙ rw (c.wide.ensures.0, c.moved-moved.ensures, c.of-position.ensures)
+          (sym (move-applied c.args.bytes.now c.args.meta-header bytes (omega arith))),
+    )

@@ -1,0 +1,24 @@
+-- `put_u64` meets its contract: the laws of a written run, at the 8 bytes of the number.
+use mathlib.Core.Path.{refl, sym, ◌∙◌}
+use Prim.Native.Nat.{◌+◌, ◌≤◌}
+use lib.ListN.{length}
+use borrow.Author.Rules.{rules}
+use borrow.Author.Tests.{leb-true, leb-false}
+use Rattle.wire_encoding.proofs.BigEndian.{length_bytes_of}
+use Rattle.wire_encoding.proofs.Writes.{done, no_room}
+use Rattle.wire_encoding.proofs.write.put_u64.Goals as goal
+
+pub write_big_endian-requires : goal.write_big_endian-requires
+write_big_endian-requires c =
+    let a = c.args in
+    let room : a.at + 8 ≤ length a.dst.now = leb-true _ _ (sym c.has_room.ensures ∙ c.if-has_room.true) in
+    search rules
+
+pub returns-then-has_room : goal.returns-then-has_room
+returns-then-has_room c =
+    rw (done _ _ _ 8 (length_bytes_of 8 _)
+    (leb-true _ _ (sym c.has_room.ensures ∙ c.if-has_room.true)))
+    (record { value = refl; dst_after = c.write_big_endian.ensures })
+
+pub returns : goal.returns
+returns c = rw (no_room _ _ _ 8 (length_bytes_of 8 _) (leb-false _ _ (sym c.has_room.ensures ∙ c.if-has_room.false))) (record { value = refl; dst_after = refl })
