@@ -100,9 +100,9 @@ info_bytes x y bx by at hx hy e i l h =
 unfoldable pub direction_flipped : InfoField → InfoField
 direction_flipped info = with_constructed_dir (not (constructed_dir info)) info
 
-pub direction_flipped : (info : InfoField) → constructed_dir (direction_flipped info) ≡ not (constructed_dir info)
+pub direction_flipped_lem : (info : InfoField) → constructed_dir (direction_flipped info) ≡ not (constructed_dir info)
 unfolding direction_flipped with_constructed_dir
-direction_flipped info = flip_made 0 info.flags
+direction_flipped_lem info = flip_made 0 info.flags
 
 -- peering stays
 pub peering-flipped : (info : InfoField) → peering (direction_flipped info) ≡ peering info

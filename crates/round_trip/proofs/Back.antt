@@ -13,7 +13,7 @@ use Rattle.wire_encoding.proofs.Bits.{xor_twice}
 use Rattle.wire_encoding.proofs.BigEndian.{number_by_part}
 use Rattle.path_fields.specs.Fields.{constructed_dir, peering, with_constructed_dir}
 use Rattle.path_fields.specs.declared.InfoField.{InfoField}
-use Rattle.path_fields.proofs.Fields.{direction_flipped, direction_flipped, peering-flipped}
+use Rattle.path_fields.proofs.Fields.{direction_flipped, direction_flipped_lem, peering-flipped}
 use Rattle.path_meta_header.specs.MetaHeader.{segment_length, info_fields_count, hop_fields_count, segment_of, hop_start}
 use Rattle.path_meta_header.specs.Reversal.{reversed_lengths}
 use Rattle.path_meta_header.specs.declared.PathMetaHeader.{PathMetaHeader}
@@ -148,7 +148,7 @@ module _ (x : List ℕ) (m : PathMetaHeader) (path : Path x m) (l : m.current_ho
 
     direction_back : constructed_dir f' ≡ not (constructed_dir f)
     unfolding changed_by
-    direction_back = ap constructed_dir info_back ∙ direction_flipped (changed_by (change_at x m now) f)
+    direction_back = ap constructed_dir info_back ∙ direction_flipped_lem (changed_by (change_at x m now) f)
 
     peering_back : peering f' ≡ peering f
     unfolding changed_by

@@ -11,7 +11,7 @@ use Rattle.wire_encoding.specs.Bits.{bit_of}
 use Rattle.wire_encoding.specs.BigEndian.{part}
 use Rattle.path_fields.specs.Fields.{constructed_dir, with_constructed_dir, ingress_interface, egress_interface}
 use Rattle.path_fields.specs.declared.InfoField.{InfoField}
-use Rattle.path_fields.proofs.Fields.{direction_flipped, direction_flipped, same-hop, ingress_same, egress_same, ingress_exchanged, egress_exchanged}
+use Rattle.path_fields.proofs.Fields.{direction_flipped, direction_flipped_lem, same-hop, ingress_same, egress_same, ingress_exchanged, egress_exchanged}
 use Rattle.path_meta_header.specs.MetaHeader.{info_fields_count, hop_fields_count, segment_of, hop_start}
 use Rattle.path_meta_header.specs.declared.PathMetaHeader.{PathMetaHeader}
 use Rattle.path_meta_header.proofs.MetaHeader.{segment_below}
@@ -148,7 +148,7 @@ module _ (b : List ℕ) (path : Path b (meta_header_of b)) (p : ℕ) (x : List �
   accumulator_back = ap (λ (f : InfoField). f.accumulator) info_back ∙ o.meets
 
   direction_back : constructed_dir (info_at z (segment_of mz (N - 1 - p))) ≡ not (constructed_dir (info_at b (segment_of m p)))
-  direction_back = ap constructed_dir info_back ∙ direction_flipped (info_at x (segment_of m p)) ∙ ap not direction_out
+  direction_back = ap constructed_dir info_back ∙ direction_flipped_lem (info_at x (segment_of m p)) ∙ ap not direction_out
 
   under_back : under z mz (N - 1 - p) (accumulator_of z mz (N - 1 - p)) ≡ exchanged (under b m p (accumulator_by b p))
   unfolding exchanged

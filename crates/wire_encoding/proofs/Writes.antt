@@ -24,6 +24,7 @@ pub record NumberLeft (goal dst₀ dst : List ℕ) (at left rest : ℕ) : Type 0
 pub number_step : (goal dst₀ dst : List ℕ) (at left rest : ℕ) → 0 < left → NumberLeft goal dst₀ dst at left rest
     → NumberLeft goal dst₀ (set dst (at + (left - 1)) (rest % 256)) at (left - 1) (rest / 256)
 unfolding bytes_of
+number_step goal dst₀ dst at zero rest h i = elim h [ ]
 number_step goal dst₀ dst at (suc n) rest h i =
     let l : length (bytes_of n (rest / 256)) ≡ n = length_bytes_of n (rest / 256) in
     simp sub-one (record {
@@ -39,6 +40,7 @@ number_step goal dst₀ dst at (suc n) rest h i =
 pub number_done : (goal dst₀ dst : List ℕ) (at left rest : ℕ) → left ≤ 0 → NumberLeft goal dst₀ dst at left rest → dst ≡ goal
 unfolding bytes_of
 number_done goal dst₀ dst at zero rest h i = i.writes
+number_done goal dst₀ dst at (suc _) rest h i = elim h [ ]
 
 -- what is left of a run of bytes, written to dst as it is now, gives what is wanted
 pub record RunLeft (src goal dst₀ dst : List ℕ) (at i : ℕ) : Type 0 where

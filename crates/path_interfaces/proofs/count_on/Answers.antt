@@ -7,8 +7,9 @@ use Rattle.path.specs.Standard.{peering_path}
 use Rattle.path.proofs.Peering.{two_segments}
 use Rattle.path_interfaces.specs.Interfaces as spec
 use Rattle.path_interfaces.proofs.count_on.Goals as goal
+use Rattle.path_interfaces.proofs.count_on.Goals.{After-hop_fields_count}
 
-peering : (c : goal.After-hop_fields_count)
+peering : (c : After-hop_fields_count)
     → let a = c.before.before.before.before.args in
     peering_path a.bytes.now a.meta-header ≡ true
 peering c = sym c.is_peering_path.ensures ∙ c.if-is_peering_path.true

@@ -9,9 +9,10 @@ use Rattle.path_fields.proofs.Fields.{info_in, hop_in}
 use Rattle.path.specs.Standard.{info_at, hop_at}
 use Rattle.path_interfaces.specs.Interfaces as spec
 use Rattle.path_interfaces.proofs.interface_at.Goals as goal
+use Rattle.path_interfaces.proofs.interface_at.Goals.{After-at-hop_field}
 
 -- where both are read: inside the bytes
-info : (c : goal.After-at-hop_field)
+info : (c : After-at-hop_field)
     → let a = c.before.before.before.before.before.args in
     c.before.before.at.result ≡ info_at a.bytes.now (segment_of a.meta-header a.hop)
 info c =
@@ -20,7 +21,7 @@ info c =
     ∙ ap (λ k. info_field_in a.bytes.now (info_start k)) c.segment_of-segment.ensures.0
     ∙ info_in a.bytes.now (info_start (segment_of a.meta-header a.hop)) (omega (arith, c.requires.hop_inside, c.requires.segment_inside))
 
-hop : (c : goal.After-at-hop_field)
+hop : (c : After-at-hop_field)
     → let a = c.before.before.before.before.before.args in
     c.at2.result ≡ hop_at a.bytes.now a.meta-header a.hop
 hop c =

@@ -6,9 +6,10 @@ use Rattle.path.specs.Dataplane.{standard, path_of, path_answer}
 use Rattle.path.proofs.Reading.{answer_ok, answer_refused, record_is, standard_readable}
 use Rattle.path_moves.specs.Rules.{movable}
 use Rattle.path_moves.proofs.movable.Goals as goal
+use Rattle.path_moves.proofs.movable.Goals.{In_default}
 
 -- the path was read
-read : (c : goal.In_default)
+read : (c : In_default)
     → let call = c.before.before in
     let a = call.before.before.args in
     standard a.path.path_type a.bytes.now ≡ ok call.standard.result.path.meta_header

@@ -12,8 +12,8 @@ some_peering-requires c = (omega arith, omega arith)
 pub returns-then-some_peering : goal.returns-then-some_peering
 unfolding peering_allowed peering_path
 returns-then-some_peering c =
-    rw (← c.info_fields_count-count.ensures.0, ← c.some_peering_lem.ensures, c.if-some_peering.true) c.both_peering.ensures
+    rw (← c.info_fields_count-count.ensures.0, ← c.some_peering.ensures, c.if-some_peering.true) c.both_peering.ensures
 
 pub returns : goal.returns
 unfolding peering_allowed
-returns c = rw (← c.info_fields_count-count.ensures.0, ← c.before.some_peering_lem.ensures, c.if-some_peering.false)
+returns c = rw (← c.info_fields_count-count.ensures.0, ← c.some_peering.ensures, c.if-some_peering.false)

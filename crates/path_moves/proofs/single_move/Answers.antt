@@ -10,9 +10,10 @@ use Rattle.path_moves.specs.Moves.{CanMove, move, moved, is_last}
 use Rattle.path_moves.proofs.Moves.{can_move, one_move, path-moved}
 use Rattle.path_moves.proofs.Rules.{movable_ok, goes_on}
 use Rattle.path_moves.proofs.single_move.Goals as goal
+use Rattle.path_moves.proofs.single_move.Goals.{After-step-arg-1}
 
 -- the path can be moved
-can : (c : goal.After-step-arg-1)
+can : (c : After-step-arg-1)
     → let told = c.before.before.before.before.before in
     CanMove told.before.before.before.before.before.args.bytes.now told.before.before.movable.result.path.meta_header
 can c =

@@ -7,9 +7,10 @@ use Rattle.path_moves.specs.Moves.{is_last, walk_moves, walked, walk, walk_answe
 use Rattle.path_moves.proofs.Rules.{goes_on, goes_on_stored, known}
 use Rattle.path_moves.proofs.Walks.{way}
 use Rattle.path_moves.proofs.walk.Goals as goal
+use Rattle.path_moves.proofs.walk.Goals.{After-wide}
 
 -- there are at most 64 hop fields to walk along
-short : (c : goal.After-wide) → c.before.before.before.before.steps.result.moves < 64
+short : (c : After-wide) → c.before.before.before.before.steps.result.moves < 64
 unfolding walk_moves
 short c =
     let able = (goes_on _ _ c.movable-read.ensures c.in_default.is).1 in

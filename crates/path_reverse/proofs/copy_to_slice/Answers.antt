@@ -11,9 +11,10 @@ use Rattle.path_reverse.specs.Copy.{copy, written_path}
 use Rattle.path_reverse.proofs.Copy.{into_enough, into_fewer, front_run}
 use Rattle.path_reverse.proofs.Expiry.{path_copied}
 use Rattle.path_reverse.proofs.copy_to_slice.Goals as goal
+use Rattle.path_reverse.proofs.copy_to_slice.Goals.{In_default}
 
 -- as many bytes as reading says
-run_length : (c : goal.In_default)
+run_length : (c : In_default)
     → let decode = c.before.before.decode in
     length (take decode.result.length c.before.before.before.before.before.args.bytes.now) ≡ decode.result.length
 run_length c =

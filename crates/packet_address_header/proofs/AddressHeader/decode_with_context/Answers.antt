@@ -10,12 +10,12 @@ pub returns-then-bytes-end : goal.returns-then-bytes-end
 unfolding address_answer
 returns-then-bytes-end c =
     let args = c.args in
-    let short = rw (c.address_length_lem.ensures.0, c.address_length.ensures.0) at c.if-bytes-end.true in
+    let short = rw (c.address_length.ensures.0, c.address_length.ensures.0) at c.if-bytes-end.true in
     rw (c.zero-header.ensures, truncated args.bytes.now (args.host-kinds / 16) (args.host-kinds % 16) short)
 
 pub read-destination-requires : goal.read-destination-requires
 read-destination-requires c =
-    omega (arith, c.before.before.address_length_lem.ensures.0, c.if-bytes-end.false)
+    omega (arith, c.address_length.ensures.0, c.if-bytes-end.false)
 
 pub read-source-requires : goal.read-source-requires
 read-source-requires c =
@@ -26,7 +26,7 @@ unfolding address_at address_answer length_of_kinds
 returns c =
     let args = c.args in
     let bytes = args.bytes.now in
-    let destination-long = c.address_length_lem.ensures.0 in
+    let destination-long = c.address_length.ensures.0 in
     let source-long = c.address_length.ensures.0 in
     let read = address_read_lem bytes (args.host-kinds / 16) (args.host-kinds % 16) (omega (arith, c.if-bytes-end.false, destination-long, source-long)) in
     let long = address_length_lem bytes (args.host-kinds / 16) (args.host-kinds % 16) in

@@ -9,9 +9,10 @@ use Rattle.packet_address_header.specs.AddressHeader.{kind_of, address_length, a
 use Rattle.packet_address_header.proofs.AddressHeaderLaws.{Sixteen, length_on_wire, bytes_on_wire, length-address_bytes, address_written}
 use borrow.Author.Rules.{rules}
 use Rattle.packet_address_header.proofs.AddressHeader.encode_to.Goals as goal
+use Rattle.packet_address_header.proofs.AddressHeader.encode_to.Goals.{After-encoded_length, After-on_wire-wire, Start}
 
 -- the kinds that are tested are the hosts'
-kinds : (c : goal.After-on_wire-wire) → let wire = c.on-wire.result in
+kinds : (c : After-on_wire-wire) → let wire = c.on-wire.result in
     let a = c.before.before.args.self in
     (wire.destination.kind ≡ kind_of a.destination.host) × (wire.source.kind ≡ kind_of a.source.host)
 unfolding on_wire host_on_wire
@@ -29,7 +30,7 @@ returns-then-wire-ge16-2 c =
     rw (lt-ltb _ _ (rw (kinds c.before.before.before.before).0 at c.if-wire-ge16.false), le-ltb _ _ (rw (kinds c.before.before.before.before).1 at c.if-wire-ge16-2.true)) (record { value = refl; dst_after = refl })
 
 -- and the length is the header's
-long : (c : goal.After-encoded_length) → let wire = c.before.before.before.before.before in
+long : (c : After-encoded_length) → let wire = c.before.before.before.before.before in
     c.encoded-length.result ≡ address_length wire.before.before.args.self
 long c =
     c.encoded_length.ensures.0 ∙ ap wire_length c.on_wire-wire.ensures ∙ length_on_wire c.args.self
@@ -46,7 +47,7 @@ returns-then-dst-encoded_length c =
     (record { value = refl; dst_after = refl })
 
 -- the arrays beside the hosts
-both-sixteen : (c : goal.Start) → Sixteen c.args.self
+both-sixteen : (c : Start) → Sixteen c.args.self
 both-sixteen c = record { destination_sixteen = search rules; source_sixteen = search rules }
 
 pub returns : goal.returns

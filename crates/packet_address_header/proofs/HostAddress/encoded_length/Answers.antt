@@ -2,4 +2,4 @@
 use Rattle.packet_address_header.proofs.HostAddress.encoded_length.Goals as goal
 
 pub returns : goal.returns
-returns c = rw (← c.kind.ensures) c.address_length_lem.ensures
+returns c = rw (← c.kind.ensures) c.address_length.ensures

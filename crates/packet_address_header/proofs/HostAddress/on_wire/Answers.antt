@@ -13,7 +13,7 @@ returns-in-V6 c = rw (c.in-Decoded.is, c.in-V6.is)
 pub returns-in-Svc : goal.returns-in-Svc
 unfolding host_on_wire kind_of raw_of
 returns-in-Svc c =
-    rw (c.in-Decoded.is, c.in-Svc.is, c.service_bytes_lem.ensures)
+    rw (c.in-Decoded.is, c.in-Svc.is, c.service_bytes.ensures)
 
 pub returns-in-Encoded : goal.returns-in-Encoded
 unfolding host_on_wire kind_of raw_of

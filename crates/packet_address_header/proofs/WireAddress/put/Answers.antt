@@ -8,12 +8,13 @@ use Rattle.packet_address_header.specs.AddressHeader.{length_of_kinds, wire_leng
 use Rattle.packet_address_header.proofs.AddressHeaderLaws.{WireSixteen, length-wire_bytes, ends-written}
 use borrow.Author.Rules.{rules}
 use Rattle.packet_address_header.proofs.WireAddress.put.Goals as goal
+use Rattle.packet_address_header.proofs.WireAddress.put.Goals.{Else-dst-at-2, Start}
 
 -- the arrays beside the hosts are of sixteen bytes
-both-sixteen : (c : goal.Start) → WireSixteen c.args.self
+both-sixteen : (c : Start) → WireSixteen c.args.self
 both-sixteen c = record { destination_sixteen = search rules; source_sixteen = search rules }
 
-size : (c : goal.Start) → length (wire_bytes c.args.self) ≡ wire_length c.args.self
+size : (c : Start) → length (wire_bytes c.args.self) ≡ wire_length c.args.self
 size c = length-wire_bytes c.args.self (both-sixteen c)
 
 pub returns-then-dst-at : goal.returns-then-dst-at
@@ -27,7 +28,7 @@ returns-then-dst-at-2 c =
     rw (no_room a.dst.now a.at (wire_bytes a.self) _ (size c.before.before.before.before) (omega (arith, c.encoded_length.ensures.0))) (record { value = refl; dst_after = refl })
 
 -- there is room for all of it
-room : (c : goal.Else-dst-at-2) → let start = c.before.before.before.before in
+room : (c : Else-dst-at-2) → let start = c.before.before.before.before in
     start.args.at + wire_length start.args.self ≤ length start.args.dst.now
 room c = omega (arith, c.encoded_length.ensures.0)
 

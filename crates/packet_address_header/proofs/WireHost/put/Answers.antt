@@ -10,6 +10,7 @@ use Rattle.packet_address_header.specs.AddressHeader.{wire_host_bytes}
 use Rattle.packet_address_header.proofs.AddressHeaderLaws.{host_words, length-written, word_room, word_written}
 use borrow.Author.Rules.{rules}
 use Rattle.packet_address_header.proofs.WireHost.put.Goals as goal
+use Rattle.packet_address_header.proofs.WireHost.put.Goals.{In-loop-done, Start}
 
 pub loop-done-init : goal.loop-done-init
 loop-done-init c = record {
@@ -20,7 +21,7 @@ loop-done-init c = record {
 }
 
 -- there is room for the next word
-room : (c : goal.In-loop-done invariant-loop decreases-loop) → let turn = c.before in
+room : (c : In-loop-done invariant-loop decreases-loop) → let turn = c.before in
     turn.before.before.before.before.args.at + turn.loop.done + 4 ≤ length turn.loop.dst
 room c = word_room c.loop-done.invariant c.loop-done-test.true (omega (arith, c.encoded_length-len.ensures.0))
 
@@ -50,10 +51,10 @@ pub loop-done-smaller : goal.loop-done-smaller
 loop-done-smaller c = omega arith
 
 -- the array beside the kind: sixteen bytes
-sixteen : (c : goal.Start invariant-loop decreases-loop) → length c.args.self.bytes ≡ 16
+sixteen : (c : Start invariant-loop decreases-loop) → length c.args.self.bytes ≡ 16
 sixteen c = search rules
 
-all-bytes : (c : goal.Start invariant-loop decreases-loop) → Bytes c.args.self.bytes
+all-bytes : (c : Start invariant-loop decreases-loop) → Bytes c.args.self.bytes
 all-bytes c = λ k. search rules
 
 pub loop-done-preserved : goal.loop-done-preserved

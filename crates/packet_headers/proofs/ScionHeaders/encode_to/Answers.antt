@@ -15,21 +15,22 @@ use Rattle.packet_headers.specs.Headers.{headers_length, common_of, write_header
 use Rattle.packet_headers.proofs.Headers.{headers-written, added_few, three_written}
 use borrow.Author.Rules.{rules}
 use Rattle.packet_headers.proofs.ScionHeaders.encode_to.Goals as goal
+use Rattle.packet_headers.proofs.ScionHeaders.encode_to.Goals.{After-encoded_length-fixed, After-fields_fit, After-fills, After-on_wire-wire, Else-not-fields_fit, Else-not-fills, Else-self-gt65535, Start}
 
-abbrev start : goal.After-on_wire-wire → tie.Start
+abbrev start : After-on_wire-wire → tie.Start
 start c = c.before.before.before
 
 -- what the first test finds
-fits : (c : goal.After-fields_fit) → common_fits (common_of (start c.before).args.self) ≡ c.fields_fit.result
+fits : (c : After-fields_fit) → common_fits (common_of (start c.before).args.self) ≡ c.fields_fit.result
 unfolding common_fits common_of on_wire host_on_wire
 fits c = sym (rw c.on_wire-wire.ensures at c.fields_fit.ensures)
 
-fit : (c : goal.Else-not-fields_fit) → common_fits (common_of (start c.before.before).args.self) ≡ true
-fit c = fits c.before ∙ not-false c.fields_fit.result c.if-not-fields_fit.false
+fit : (c : Else-not-fields_fit) → common_fits (common_of (start c.before.before).args.self) ≡ true
+fit c = fits c.before ∙ c.if-not-fields_fit.false
 
 pub returns-then-not-fields_fit : goal.returns-then-not-fields_fit
 unfolding write_headers encoded_of
-returns-then-not-fields_fit c = rw (fits c.before, not-true c.fields_fit.result c.if-not-fields_fit.true) (record { value = refl; dst_after = refl })
+returns-then-not-fields_fit c = rw (fits c.before, c.if-not-fields_fit.true) (record { value = refl; dst_after = refl })
 
 pub returns-then-self-eq0 : goal.returns-then-self-eq0
 unfolding write_headers encoded_of
@@ -45,25 +46,25 @@ unfolding write_headers encoded_of
 returns-then-self-gt65535 c =
     rw (fit c.before.before.before.before.before.before, ne_eqb _ _ c.if-self-eq0.false, le-leb _ _ c.if-self-gt255.false, lt-leb _ _ c.if-self-gt65535.true) (record { value = refl; dst_after = refl })
 
-abbrev on-wire : goal.Else-self-gt65535 → tie.After-on-wire
+abbrev on-wire : Else-self-gt65535 → tie.After-on-wire
 on-wire c =
     c.before.before.before.before.before.before.before.before
 
 -- the length of the address header
-long : (c : goal.After-encoded_length-fixed) → c.encoded-length.result ≡ address_length (start (on-wire c.before)).args.self.address
+long : (c : After-encoded_length-fixed) → c.encoded-length.result ≡ address_length (start (on-wire c.before)).args.self.address
 long c =
     let wire = on-wire c.before in
     c.encoded_length-fixed.ensures.0 ∙ ap wire_length wire.on-wire.ensures ∙ length_on_wire (start wire).args.self.address
 
 -- the size is tested against the length of all
-filled : (c : goal.After-fills) → let args = (start (on-wire c.before.before.before)).args in
+filled : (c : After-fills) → let args = (start (on-wire c.before.before.before)).args in
     eqb (length args.dst.now) (headers_length args.self.address args.self.path_type (length args.path.now)) ≡ c.fills.result
 unfolding headers_length
 filled c = sym (rw (long c.before.before, c.path_length-added.ensures) at c.fills.ensures)
 
-exact : (c : goal.Else-not-fills) → let args = (start (on-wire c.before.before.before.before)).args in
+exact : (c : Else-not-fills) → let args = (start (on-wire c.before.before.before.before)).args in
     length args.dst.now ≡ headers_length args.self.address args.self.path_type (length args.path.now)
-exact c = eqb-true _ _ (filled c.before ∙ not-false c.fills.result c.if-not-fills.false)
+exact c = eqb-true _ _ (filled c.before ∙ c.if-not-fills.false)
 
 pub returns-then-not-fills : goal.returns-then-not-fills
 unfolding write_headers encoded_of
@@ -74,7 +75,7 @@ returns-then-not-fills c =
       le-leb _ _ c.if-self-gt255.false,
       le-leb _ _ c.if-self-gt65535.false,
       filled c.before,
-      not-true c.fills.result c.if-not-fills.true,
+      c.if-not-fills.true,
     )
     (record { value = refl; dst_after = refl })
 
@@ -89,7 +90,7 @@ slice_bounds-put_slice-end c =
     omega (arith, c.path_length-added.ensures, added_few args.self.path_type (length args.path.now))
 
 -- the arrays beside the hosts
-both-sixteen : (c : goal.Start) → Sixteen c.args.self.address
+both-sixteen : (c : Start) → Sixteen c.args.self.address
 both-sixteen c = record { destination_sixteen = search rules; source_sixteen = search rules }
 
 pub returns : goal.returns

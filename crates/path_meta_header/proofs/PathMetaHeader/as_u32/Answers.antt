@@ -5,8 +5,9 @@ use native.Mathlib.Omega.{arith}
 use Rattle.path_meta_header.specs.Encoding as encoding
 use Rattle.path_meta_header.proofs.Encoding.{Fitting, fitting}
 use Rattle.path_meta_header.proofs.PathMetaHeader.as_u32.Goals as goal
+use Rattle.path_meta_header.proofs.PathMetaHeader.as_u32.Goals.{Then-fields_fit}
 
-fits : (c : goal.Then-fields_fit) → encoding.meta_fits c.before.before.before.args.self ≡ true
+fits : (c : Then-fields_fit) → encoding.meta_fits c.before.before.before.args.self ≡ true
 fits c = sym c.fields_fit.ensures ∙ c.if-fields_fit.true
 
 pub overflow_cast-result : goal.overflow_cast-result

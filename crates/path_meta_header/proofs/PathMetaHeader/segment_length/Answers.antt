@@ -4,8 +4,9 @@ use lib.ListN.{length, get_or-eq_default}
 use native.Mathlib.Omega.{arith}
 use borrow.Author.Rules.{rules}
 use Rattle.path_meta_header.proofs.PathMetaHeader.segment_length.Goals as goal
+use Rattle.path_meta_header.proofs.PathMetaHeader.segment_length.Goals.{Start}
 
-three : (c : goal.Start) → length c.args.self.segment_lengths ≡ 3
+three : (c : Start) → length c.args.self.segment_lengths ≡ 3
 three c = search rules
 
 pub returns : goal.returns

@@ -10,6 +10,7 @@ use Rattle.path_moves.specs.Moves.{change_of, move_from, takes_in}
 use Rattle.path_moves.specs.Rules.{owner_of}
 use Rattle.path_moves.proofs.Moves.{standing_at}
 use Rattle.path_moves.proofs.Position.moved.Goals as goal
+use Rattle.path_moves.proofs.Position.moved.Goals.{After-info_field_at-info_field, After-is_spared, After-owner_of-owner}
 
 pub overflow_cast-position-2 : goal.overflow_cast-position-2
 overflow_cast-position-2 c =
@@ -28,21 +29,21 @@ info_field_at-info_field-requires c =
     (omega (arith, c.wide-segment.ensures.0), c.wide-segment.ensures.1)
 
 -- the info field that was read, and the owner, are the definition's
-info-is : (c : goal.After-info_field_at-info_field)
+info-is : (c : After-info_field_at-info_field)
     → let segment = c.before.before.before.before in
     let a = segment.before.before.args in
     c.info-field-at.result ≡ info_at a.bytes.now a.self.current_info_field
 info-is c =
     rw (← c.wide-segment.ensures.0) c.info_field_at-info_field.ensures
 
-owner-is : (c : goal.After-owner_of-owner)
+owner-is : (c : After-owner_of-owner)
     → let segment = c.before.before.before.before.before in
     let a = segment.before.before.args in
     c.owner_of.result ≡ owner_of (info_at a.bytes.now a.self.current_info_field) a.self.current_hop_field
 owner-is c = rw (← info-is c.before) c.owner_of-owner.ensures.0
 
 -- so a code is taken in unless the answer is that the owner is spared
-taken_is : (c : goal.After-is_spared)
+taken_is : (c : After-is_spared)
     → let inside = c.before.before.before.before in
     let a = inside.before.before.before.before.before.args in
     takes_in a.bytes.now a.meta-header a.self.current_info_field a.self.current_hop_field ≡ not c.is-spared.result

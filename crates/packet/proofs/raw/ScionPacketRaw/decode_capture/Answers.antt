@@ -9,4 +9,4 @@ unfolding capture_answer
 returns c =
     let bytes = c.args.bytes.now in
     rw (c.header_length.ensures.0, c.split-packet.ensures)
-    (ap (λ short. record { c.before.before = packet_answer (read_capture bytes); short = short }) (short_handed (read_capture bytes) bytes))
+    (ap (λ short. record { packet = packet_answer (read_capture bytes); short = short }) (short_handed (read_capture bytes) bytes))

@@ -7,9 +7,10 @@ use Rattle.packet.specs.Raw.{read_rest}
 use Rattle.packet.proofs.RawLaws.{address_ok, address_refused, address_long, CommonFound, end_inside, kinds_read}
 use Rattle.packet.proofs.RawLaws.{sees, AddressFound, start_inside, sees_path, PathFound, left_over, payload_short, packet_split}
 use Rattle.packet.proofs.raw.ScionPacketRaw.rest.Goals as goal
+use Rattle.packet.proofs.raw.ScionPacketRaw.rest.Goals.{After-address-1, After-header_end-end, After-path-1}
 
 -- the common header, and where the headers end
-common : (c : goal.After-header_end-end) → let s = c.before.before in
+common : (c : After-header_end-end) → let s = c.before.before in
     CommonFound s.args.bytes.now s.args.common c.header-end.result
 common c = record { common = c.requires; ends = c.header_end-end.ensures.0 }
 
@@ -30,7 +31,7 @@ returns-in-Refused c =
     rw (address_refused _ seen c.in-Refused.is) c.refused.ensures
 
 -- the address header, and where the path starts
-address : (c : goal.After-address-1) → let a = c.before.before.before in
+address : (c : After-address-1) → let a = c.before.before.before in
     let h = a.before.before.before in
     let s = h.before.before in
     AddressFound s.args.bytes.now s.args.common h.header-end.result a.decode-with-context.result.header
@@ -58,7 +59,7 @@ returns-in-Refused-path_answer c =
     rw (found.address, read_refused _ seen c.in-Refused-path_answer.is) c.refused-in-Refused-path_answer.ensures
 
 -- the path
-path : (c : goal.After-path-1) → let read = c.before.before.before in
+path : (c : After-path-1) → let read = c.before.before.before in
     let after = read.before.before.before.before in
     let a = after.before.before.before in
     let h = a.before.before.before in

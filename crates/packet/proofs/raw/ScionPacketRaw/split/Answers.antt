@@ -4,13 +4,14 @@ use Rattle.wire_encoding.specs.Result.{ok}
 use Rattle.packet_common_header.specs.CommonHeader.{read_common}
 use Rattle.packet.proofs.RawLaws.{common_ok, common_refused, first_refused, then_short, then_rest}
 use Rattle.packet.proofs.raw.ScionPacketRaw.split.Goals as goal
+use Rattle.packet.proofs.raw.ScionPacketRaw.split.Goals.{After-is_refused}
 
 pub returns-in-Refused : goal.returns-in-Refused
 returns-in-Refused c =
     rw (first_refused _ _ (common_refused _ c.decode-common_read.ensures c.in-Refused.is)) c.refused.ensures
 
 -- the common header that was read
-common : (c : goal.After-is_refused) → let s = c.before.before.before.before in
+common : (c : After-is_refused) → let s = c.before.before.before.before in
     read_common s.before.before.args.bytes.now ≡ ok s.decode.result.header
 common c = common_ok _ c.decode-common_read.ensures c.in_default.is
 

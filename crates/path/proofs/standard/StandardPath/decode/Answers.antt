@@ -7,6 +7,7 @@ use Rattle.path.proofs.Reading.{readable, expiry_found_lem}
 use Rattle.path_meta_header.proofs.MetaHeader.{meta_ok, meta_refused}
 use Rattle.path.specs.Standard as spec
 use Rattle.path.proofs.standard.StandardPath.decode.Goals as goal
+use Rattle.path.proofs.standard.StandardPath.decode.Goals.{Else-bytes-encoded_path_length}
 
 pub returns-in-Refused : goal.returns-in-Refused
 unfolding spec.read_record spec.read_path spec.path_read
@@ -23,7 +24,7 @@ returns-then-bytes-encoded_path_length c =
     )
 
 -- the path was read
-read : (c : goal.Else-bytes-encoded_path_length)
+read : (c : Else-bytes-encoded_path_length)
     → let told = c.before.before.before in
     let call = told.before.before in
     spec.read_path call.before.before.args.bytes.now ≡ ok call.decode.result.meta_header

@@ -11,6 +11,7 @@ use mir.Syntax.{w64}
 use mir.Val.{to_z}
 use mir.Facts.{to_z_pos, to_z-of_z}
 use Rattle.path.proofs.standard.time_left.left.Goals as goal
+use Rattle.path.proofs.standard.time_left.left.Goals.{Start}
 
 -- one natural number less another, as integers
 minus : (a b : ℕ) → pos a -ℤ pos b ≡ sub_ℕ a b
@@ -25,7 +26,7 @@ minus-small a b g h = go (ltb a b)
     go true = omega arith
     go false = omega arith
 
-difference : (c : goal.Start) → to_z w64 c.args.expiry -ℤ to_z w64 c.args.at ≡ sub_ℕ c.args.expiry c.args.at
+difference : (c : Start) → to_z w64 c.args.expiry -ℤ to_z w64 c.args.at ≡ sub_ℕ c.args.expiry c.args.at
 difference c =
     ap₂ ◌-ℤ◌ (to_z_pos w64 {n = c.args.expiry} (omega arith)) (to_z_pos w64 {n = c.args.at} (omega arith))
     ∙ minus c.args.expiry c.args.at
