@@ -11,14 +11,14 @@ use Rattle.path_interfaces.proofs.count_on.Goals.{After-hop_fields_count}
 
 peering : (c : After-hop_fields_count)
     → let a = c.before.before.before.before.args in
-    peering_path a.bytes.now a.meta-header ≡ true
+    peering_path a.bytes.now a.meta_header ≡ true
 peering c = sym c.is_peering_path.ensures ∙ c.if-is_peering_path.true
 
 pub overflow_sub-result : goal.overflow_sub-result
 overflow_sub-result c =
     let a = c.args in
-    let two = two_segments a.bytes.now a.meta-header (peering c) in
-    omega (arith, info_le_hop a.meta-header)
+    let two = two_segments a.bytes.now a.meta_header (peering c) in
+    omega (arith, info_le_hop a.meta_header)
 
 pub returns-then-is_peering_path : goal.returns-then-is_peering_path
 unfolding spec.count_on

@@ -14,21 +14,21 @@ use Rattle.path_interfaces.proofs.interface_at.Goals.{After-at-hop_field}
 -- where both are read: inside the bytes
 info : (c : After-at-hop_field)
     → let a = c.before.before.before.before.before.args in
-    c.before.before.at.result ≡ info_at a.bytes.now (segment_of a.meta-header a.hop)
+    c.before.before.at.result ≡ info_at a.bytes.now (segment_of a.meta_header a.hop)
 info c =
     let a = c.args in
     c.at-info_field.ensures
     ∙ ap (λ k. info_field_in a.bytes.now (info_start k)) c.segment_of-segment.ensures.0
-    ∙ info_in a.bytes.now (info_start (segment_of a.meta-header a.hop)) (omega (arith, c.requires.hop_inside, c.requires.segment_inside))
+    ∙ info_in a.bytes.now (info_start (segment_of a.meta_header a.hop)) (omega (arith, c.requires.hop_inside, c.requires.segment_inside))
 
 hop : (c : After-at-hop_field)
     → let a = c.before.before.before.before.before.args in
-    c.at2.result ≡ hop_at a.bytes.now a.meta-header a.hop
+    c.at2.result ≡ hop_at a.bytes.now a.meta_header a.hop
 hop c =
     let a = c.args in
     c.at-hop_field.ensures
     ∙ ap (λ n. hop_field_in a.bytes.now (n + a.hop * 12)) c.hop_fields_start.ensures.0
-    ∙ hop_in a.bytes.now (hop_start a.meta-header a.hop) c.requires.hop_inside
+    ∙ hop_in a.bytes.now (hop_start a.meta_header a.hop) c.requires.hop_inside
 
 pub returns-then-index-eq0 : goal.returns-then-index-eq0
 unfolding spec.interface_at

@@ -22,5 +22,5 @@ loop-k-preserved c = (
 pub returns : goal.returns
 unfolding spec.path_expiry
 returns c =
-    let e : c.loop-k.k ≡ info_fields_count c.args.meta-header - 1 = omega arith in
+    let e : c.loop-k.k ≡ info_fields_count c.args.meta_header - 1 = omega arith in
     (rw e at c.loop-k.invariant.1, search rules)

@@ -9,7 +9,7 @@ use Rattle.path_least_expiry.proofs.segment_expiry.Goals as goal
 use Rattle.path_least_expiry.proofs.segment_expiry.Goals.{Start}
 
 -- where the segment lies
-lies : (c : Start) → Inside c.args.bytes.now c.args.meta-header c.args.k
+lies : (c : Start) → Inside c.args.bytes.now c.args.meta_header c.args.k
 lies c = inside _ _ _ c.requires.0 c.requires.1
 
 pub timestamp_at-timestamp-requires : goal.timestamp_at-timestamp-requires

@@ -19,13 +19,13 @@ pub returns-then-owner-first_length : goal.returns-then-owner-first_length
 unfolding spared
 returns-then-owner-first_length c =
     let a = c.args in
-    rw (← c.is_peering.ensures, c.if-is_peering.true) (below a.owner a.first-length c.if-owner-first_length.true)
+    rw (← c.is_peering.ensures, c.if-is_peering.true) (below a.owner a.first_length c.if-owner-first_length.true)
 
 pub returns-then-is_peering : goal.returns-then-is_peering
 unfolding spared
 returns-then-is_peering c =
     let a = c.args in
-    rw (← c.is_peering.ensures, c.if-is_peering.true, ne_eqb (a.owner + 1) a.first-length (λ e. omega arith))
+    rw (← c.is_peering.ensures, c.if-is_peering.true, ne_eqb (a.owner + 1) a.first_length (λ e. omega arith))
 
 pub returns : goal.returns
 unfolding spared

@@ -18,5 +18,5 @@ returns c =
       c.at_position.ensures ∙ rw (c.moved-moved.ensures, c.of-position.ensures),
       c.apply.ensures
           ∙ rw (c.wide.ensures.0, c.moved-moved.ensures, c.of-position.ensures)
-          (sym (move-applied c.args.bytes.now c.args.meta-header bytes (omega arith))),
+          (sym (move-applied c.args.bytes.now c.args.meta_header bytes (omega arith))),
     )

@@ -20,7 +20,7 @@ reverse_hop_fields-requires c = search rules
 
 pub returns : goal.returns
 returns c =
-    all_written c.args.meta-header c.args.bytes.now c.args.dst.now c.requires
+    all_written c.args.meta_header c.args.bytes.now c.args.dst.now c.requires
     (c.word_of.ensures ∙ ap word_of c.to_reversed-reversed.ensures)
     c.info_fields_count-infos.ensures.0
     c.hop_fields_count-hops.ensures.0

@@ -10,6 +10,6 @@ returns-in-Value c = (word_is _ (rw c.in-Value.is at c.as_u32.ensures)).1
 
 pub returns-in-TooWide : goal.returns-in-TooWide
 returns-in-TooWide c =
-    let m = c.args.meta-header in
+    let m = c.args.meta_header in
     let wide : meta_fits m ≡ false = word_wide m (rw c.in-TooWide.is at c.as_u32.ensures) in
     cc c.requires

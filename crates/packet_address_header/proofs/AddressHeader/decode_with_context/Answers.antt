@@ -11,7 +11,7 @@ unfolding address_answer
 returns-then-bytes-end c =
     let args = c.args in
     let short = rw (c.address_length.ensures.0, c.address_length.ensures.0) at c.if-bytes-end.true in
-    rw (c.zero-header.ensures, truncated args.bytes.now (args.host-kinds / 16) (args.host-kinds % 16) short)
+    rw (c.zero-header.ensures, truncated args.bytes.now (args.host_kinds / 16) (args.host_kinds % 16) short)
 
 pub read-destination-requires : goal.read-destination-requires
 read-destination-requires c =
@@ -28,8 +28,8 @@ returns c =
     let bytes = args.bytes.now in
     let destination-long = c.address_length.ensures.0 in
     let source-long = c.address_length.ensures.0 in
-    let read = address_read_lem bytes (args.host-kinds / 16) (args.host-kinds % 16) (omega (arith, c.if-bytes-end.false, destination-long, source-long)) in
-    let long = address_length_lem bytes (args.host-kinds / 16) (args.host-kinds % 16) in
+    let read = address_read_lem bytes (args.host_kinds / 16) (args.host_kinds % 16) (omega (arith, c.if-bytes-end.false, destination-long, source-long)) in
+    let long = address_length_lem bytes (args.host_kinds / 16) (args.host_kinds % 16) in
     rw (
       read,
       long,

@@ -12,7 +12,7 @@ use Rattle.packet_address_header.proofs.AddressHeader.encode_to.Goals as goal
 use Rattle.packet_address_header.proofs.AddressHeader.encode_to.Goals.{After-encoded_length, After-on_wire-wire, Start}
 
 -- the kinds that are tested are the hosts'
-kinds : (c : After-on_wire-wire) → let wire = c.on-wire.result in
+kinds : (c : After-on_wire-wire) → let wire = c.on_wire.result in
     let a = c.before.before.args.self in
     (wire.destination.kind ≡ kind_of a.destination.host) × (wire.source.kind ≡ kind_of a.source.host)
 unfolding on_wire host_on_wire
@@ -31,7 +31,7 @@ returns-then-wire-ge16-2 c =
 
 -- and the length is the header's
 long : (c : After-encoded_length) → let wire = c.before.before.before.before.before in
-    c.encoded-length.result ≡ address_length wire.before.before.args.self
+    c.encoded_length.result ≡ address_length wire.before.before.args.self
 long c =
     c.encoded_length.ensures.0 ∙ ap wire_length c.on_wire-wire.ensures ∙ length_on_wire c.args.self
 

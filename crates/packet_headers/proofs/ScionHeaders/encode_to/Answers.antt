@@ -51,10 +51,10 @@ on-wire c =
     c.before.before.before.before.before.before.before.before
 
 -- the length of the address header
-long : (c : After-encoded_length-fixed) → c.encoded-length.result ≡ address_length (start (on-wire c.before)).args.self.address
+long : (c : After-encoded_length-fixed) → c.encoded_length.result ≡ address_length (start (on-wire c.before)).args.self.address
 long c =
     let wire = on-wire c.before in
-    c.encoded_length-fixed.ensures.0 ∙ ap wire_length wire.on-wire.ensures ∙ length_on_wire (start wire).args.self.address
+    c.encoded_length-fixed.ensures.0 ∙ ap wire_length wire.on_wire.ensures ∙ length_on_wire (start wire).args.self.address
 
 -- the size is tested against the length of all
 filled : (c : After-fills) → let args = (start (on-wire c.before.before.before)).args in
@@ -102,7 +102,7 @@ returns c =
     let not_zero = c.if-self-eq0.false in
     let accepted = headers-written args.self args.path.now _ fitting not_zero c.if-self-gt255.false c.if-self-gt65535.false (exact c.before.before.before.before.before.before.before.before.before.before.before.before.before.before.before) in
     let all = three_written args.self args.path.now args.dst.now (both-sixteen (start wire)) (exact c.before.before.before.before.before.before.before.before.before.before.before.before.before.before.before) fitting not_zero
-    (rw (wire.on-wire.ensures, bytes_on_wire args.self.address) at c.put.ensures.dst_after)
-    (rw wire.on-wire.ensures at c.encode_to.ensures.dst_after)
+    (rw (wire.on_wire.ensures, bytes_on_wire args.self.address) at c.put.ensures.dst_after)
+    (rw wire.on_wire.ensures at c.encode_to.ensures.dst_after)
     (rw (long c.before.before.before.before.before.before.before.before.before.before.before.before.before.before.before.before.before.before, c.path_length-added.ensures) at c.put_slice.ensures.dst_after) in
     written _ _ accepted all

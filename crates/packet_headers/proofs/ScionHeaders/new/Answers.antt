@@ -10,6 +10,6 @@ returns c =
     rw (
       c.encoded_length-fixed.ensures.0,
       c.path_length-added.ensures,
-      factor_is args.address args.path-type args.path-len,
+      factor_is args.address args.path_type args.path_len,
       c.without_padding.ensures,
     )

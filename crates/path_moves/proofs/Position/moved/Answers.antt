@@ -32,7 +32,7 @@ info_field_at-info_field-requires c =
 info-is : (c : After-info_field_at-info_field)
     → let segment = c.before.before.before.before in
     let a = segment.before.before.args in
-    c.info-field-at.result ≡ info_at a.bytes.now a.self.current_info_field
+    c.info_field_at.result ≡ info_at a.bytes.now a.self.current_info_field
 info-is c =
     rw (← c.wide-segment.ensures.0) c.info_field_at-info_field.ensures
 
@@ -46,7 +46,7 @@ owner-is c = rw (← info-is c.before) c.owner_of-owner.ensures.0
 taken_is : (c : After-is_spared)
     → let inside = c.before.before.before.before in
     let a = inside.before.before.before.before.before.args in
-    takes_in a.bytes.now a.meta-header a.self.current_info_field a.self.current_hop_field ≡ not c.is-spared.result
+    takes_in a.bytes.now a.meta_header a.self.current_info_field a.self.current_hop_field ≡ not c.is_spared.result
 unfolding takes_in
 taken_is c =
     let a = c.args in

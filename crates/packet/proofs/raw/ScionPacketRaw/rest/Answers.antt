@@ -11,7 +11,7 @@ use Rattle.packet.proofs.raw.ScionPacketRaw.rest.Goals.{After-address-1, After-h
 
 -- the common header, and where the headers end
 common : (c : After-header_end-end) → let s = c.before.before in
-    CommonFound s.args.bytes.now s.args.common c.header-end.result
+    CommonFound s.args.bytes.now s.args.common c.header_end.result
 common c = record { common = c.requires; ends = c.header_end-end.ensures.0 }
 
 pub slice_bounds-decode_with_context-count : goal.slice_bounds-decode_with_context-count
@@ -34,8 +34,8 @@ returns-in-Refused c =
 address : (c : After-address-1) → let a = c.before.before.before in
     let h = a.before.before.before in
     let s = h.before.before in
-    AddressFound s.args.bytes.now s.args.common h.header-end.result a.decode-with-context.result.header
-    (12 + a.decode-with-context.result.length)
+    AddressFound s.args.bytes.now s.args.common h.header_end.result a.decode_with_context.result.header
+    (12 + a.decode_with_context.result.length)
 address c =
     let found = common c.before.before.before.before.before.before in
     let seen = rw (sees found 12 (end_inside found).0, (kinds_read found).0, (kinds_read found).1) at c.decode_with_context-address_read.ensures in
@@ -64,8 +64,8 @@ path : (c : After-path-1) → let read = c.before.before.before in
     let a = after.before.before.before in
     let h = a.before.before.before in
     let s = h.before.before in
-    PathFound s.args.bytes.now s.args.common h.header-end.result a.decode-with-context.result.header
-    (12 + a.decode-with-context.result.length)
+    PathFound s.args.bytes.now s.args.common h.header_end.result a.decode_with_context.result.header
+    (12 + a.decode_with_context.result.length)
     (record { path = read.decode.result.path; length = read.decode.result.length })
 path c =
     let found = address c.before.before.before.before.before.before.before in
