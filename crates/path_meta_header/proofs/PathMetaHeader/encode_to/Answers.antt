@@ -1,6 +1,7 @@
 -- `encode_to` meets its contract: what `as_u32` answers, then the size.
 use mathlib.Core.Path.{refl, sym, ◌∙◌}
 use borrow.Author.Tests.{ne_eqb}
+use lib.ListN.{length}
 use Rattle.wire_encoding.specs.BigEndian.{bytes_of}
 use Rattle.wire_encoding.proofs.BigEndian.{length_bytes_of}
 use Rattle.wire_encoding.proofs.Writes.{placed-whole}
@@ -15,8 +16,10 @@ returns-then-dst-eq-LENGTH c =
     let m = c.args.self in
     let known = word_is m (rw c.in-Value.is at c.as_u32.ensures) in
     let size = c.if-dst-eq-LENGTH.true in
-    written _ _ (meta_written m _ known.0 size)
-    (let rest = rw known.1 at c.put_u32.ensures.dst_after ∙ placed-whole (bytes_of 4 (word_of m)) _ (length_bytes_of 4 (word_of m) ∙ sym size) in record { value = rest.0; dst_after = rest.1 })
+    let both =
+        written (write_meta m (length c.args.dst.now)) c.args.dst.now (meta_written m _ known.0 size)
+        (rw known.1 at c.put_u32.ensures.dst_after ∙ placed-whole (bytes_of 4 (word_of m)) _ (length_bytes_of 4 (word_of m) ∙ sym size)) in
+    record { value = both.0; dst_after = both.1 }
 
 pub returns-else-dst-eq-LENGTH : goal.returns-else-dst-eq-LENGTH
 unfolding write_meta encoded_of
