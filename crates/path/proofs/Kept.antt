@@ -105,15 +105,15 @@ module _ (bytes : List ℕ) (m : PathMetaHeader) (r : Readable bytes m) (j v : �
   flags_keep = keeps bytes after m m r readable_flags flags_expiry
 
 -- of a hop field that is there
-hop_start : (m : PathMetaHeader) (j : ℕ) {start : ℕ} → hop_field_offset m j ≡ ok start → hop_start m j ≡ start
+hop_start_lem : (m : PathMetaHeader) (j : ℕ) {start : ℕ} → hop_field_offset m j ≡ ok start → hop_start m j ≡ start
 unfolding hop_field_offset
-hop_start m j h = same_value (held (ltb j (hop_fields_count m)) _ _ h).1
+hop_start_lem m j h = same_value (held (ltb j (hop_fields_count m)) _ _ h).1
 
 -- the record beside it stays
 pub path-alerted : (type : ℕ) (bytes : List ℕ) (m : PathMetaHeader) (j v : ℕ) {start : ℕ} → standard type bytes ≡ ok m
     → hop_field_offset m j ≡ ok start → path_of type (set bytes start v) ≡ path_of type bytes
 path-alerted type bytes m j v read offset =
-    rw (standard_type bytes type read, ← hop_start m j offset) (path_flags bytes m (standard_readable bytes type read) j v)
+    rw (standard_type bytes type read, ← hop_start_lem m j offset) (path_flags bytes m (standard_readable bytes type read) j v)
 
 pub alert_flags_keep_expiry : AlertFlagsKeepExpiry
 unfolding alerted
@@ -123,5 +123,5 @@ alert_flags_keep_expiry bit on bytes j left h =
     let found = stepped (hop_field_offset m j) _ read.then in
     let v : ℕ = with_bit bit on (get_or bytes found.value 0) in
     let done : alerted bit on 1 bytes j ≡ ok (set bytes (hop_start m j) v) =
-    h ∙ sym found.then ∙ ap (λ (start : ℕ). ok (set bytes start v)) (sym (hop_start m j found.first)) in
+    h ∙ sym found.then ∙ ap (λ (start : ℕ). ok (set bytes start v)) (sym (hop_start_lem m j found.first)) in
     flags_keep bytes m (standard_readable bytes 1 read.first) j v (alerted bit on 1 bytes j) done left h

@@ -165,13 +165,13 @@ module _ (bytes : List ℕ) (m : PathMetaHeader) (r : Readable bytes m) where
   unfolding path_length
   four = omega (arith, r.whole)
 
-  pub path_read : read_path bytes ≡ ok m
+  pub path_read_lem : read_path bytes ≡ ok m
   unfolding read_path read_meta room
-  path_read = rw (le-leb 4 (length bytes) four, ← r.word, sound_checked m r.sound_meta, le-leb _ _ r.whole)
+  path_read_lem = rw (le-leb 4 (length bytes) four, ← r.word, sound_checked m r.sound_meta, le-leb _ _ r.whole)
 
   pub record_read : read_record bytes ≡ ok (path_under bytes m)
   unfolding read_record
-  record_read = rw path_read
+  record_read = rw path_read_lem
 
   pub standard_read : standard 1 bytes ≡ ok m
   unfolding standard read_dataplane

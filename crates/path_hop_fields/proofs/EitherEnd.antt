@@ -22,15 +22,15 @@ length-after n run e = length-drop 12 run ∙ (omega arith)
 length_before : (n : ℕ) (run : List ℕ) → length run ≡ suc n * 12 → length (before_last run) ≡ n * 12
 length_before n run e = length-take-le (length run - 12) run (omega arith) ∙ (omega arith)
 
-hop_fields : (n : ℕ) (run : List ℕ) → length run ≡ n * 12 → hop_fields run ≡ records 12 n run
-hop_fields n run e = let number : count run ≡ n = omega arith in ap (λ (k : ℕ). records 12 k run) number
+hop_fields_lem : (n : ℕ) (run : List ℕ) → length run ≡ n * 12 → hop_fields run ≡ records 12 n run
+hop_fields_lem n run e = let number : count run ≡ n = omega arith in ap (λ (k : ℕ). records 12 k run) number
 
 -- the hop field at the front stands before the others
 at_front : (n : ℕ) (run : List ℕ) → length run ≡ suc n * 12 → first run ∷ hop_fields (after_first run) ≡ hop_fields run
 unfolding first records
 at_front n run e =
     let long : 12 ≤ length run = omega arith in
-    rw (le-ltb _ _ long, hop_fields n (after_first run) (length-after n run e), hop_fields (suc n) run e)
+    rw (le-ltb _ _ long, hop_fields_lem n (after_first run) (length-after n run e), hop_fields_lem (suc n) run e)
 
 -- the hop field at the back stands after them
 drop-take : (k : ℕ) (run : List ℕ) → 12 ≤ length run → drop 12 (take (12 + k) run) ≡ take k (drop 12 run)
@@ -53,7 +53,7 @@ unfolding last
 at_back n run e =
     let long : 12 ≤ length run = omega arith in
     let others : length run - 12 ≡ n * 12 = omega arith in
-    rw (hop_fields n (before_last run) (length_before n run e), hop_fields (suc n) run e, le-ltb _ _ long, others) (last_of n run e)
+    rw (hop_fields_lem n (before_last run) (length_before n run e), hop_fields_lem (suc n) run e, le-ltb _ _ long, others) (last_of n run e)
 
 -- ANY READS, after which n hop fields are left
 

@@ -17,14 +17,15 @@ returns-then-self-ne-SCION c =
 pub returns-in-Refused : goal.returns-in-Refused
 unfolding spec.read_dataplane spec.dataplane_read
 returns-in-Refused c =
-    let read = path_refused _ c.decode-read.ensures.value c.in-Refused.is in (
-      rw (ne_eqb _ 0 c.if-self-eq-EMPTY.false, eq-eqb _ 1 c.if-self-ne-SCION.false, read) c.refused.ensures,
-      rw c.refused.ensures (omega arith),
-    )
+    let read = path_refused _ c.decode-read.ensures.value c.in-Refused.is in
+    record {
+      value = rw (ne_eqb _ 0 c.if-self-eq-EMPTY.false, eq-eqb _ 1 c.if-self-ne-SCION.false, read) c.refused.ensures;
+      expiry_le_largest_expiry = rw c.refused.ensures (omega arith);
+    }
 
 pub returns : goal.returns
 unfolding spec.read_dataplane spec.dataplane_read
 returns c =
     let decode = c.decode-read.ensures in
-    let read = record_ok _ decode.0 c.in_default.is in
-    record { value = rw (ne_eqb _ 0 c.if-self-eq-EMPTY.false, eq-eqb _ 1 c.if-self-ne-SCION.false, read) (rw c.encoded_path_length.ensures.0); expiry_le_largest_expiry = decode.1 }
+    let read = record_ok _ decode.value c.in_default.is in
+    record { value = rw (ne_eqb _ 0 c.if-self-eq-EMPTY.false, eq-eqb _ 1 c.if-self-ne-SCION.false, read) (rw c.encoded_path_length.ensures.0); expiry_le_largest_expiry = decode.expiry_le_largest_expiry }

@@ -20,7 +20,11 @@ bounds-bytes-start c =
     omega (arith, field.inside, field.sized)
 
 pub bounds-bytes-start-2 : goal.bounds-bytes-start-2
-bounds-bytes-start-2 c = slice-read-flags c.before
+bounds-bytes-start-2 c =
+    let a = c.args in
+    let found = located_ok _ _ c.locate_hop_field-located.ensures c.in_default.is in
+    let field = hop_view a.bytes.now a.self.path_type a.index _ found in
+    omega (arith, field.inside, field.sized)
 
 pub returns : goal.returns
 unfolding spec.alerted spec.written_answer

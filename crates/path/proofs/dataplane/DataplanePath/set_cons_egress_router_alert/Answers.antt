@@ -2,4 +2,4 @@
 use Rattle.path.proofs.dataplane.DataplanePath.set_cons_egress_router_alert.Goals as goal
 
 pub returns : goal.returns
-returns c = c.set_alert.ensures
+returns c = record { value = c.set_alert.ensures.value; bytes_after = c.set_alert.ensures.bytes_after }

@@ -26,4 +26,4 @@ returns c =
     rw (le-leb _ largest_expiry c.if-self-gt-MAX_EXPIRY.false, le-leb _ spec.largest_time c.if-at-gt-MAX_TIME.false)
     (c.accepted.ensures
     ∙ ap {B = TimeLeft} (λ (z : ℤ). record { answer = Accepted; path = c.args.self; ms = z })
-    (to_z-of_z {w = w64} {z = left.result} (record { sfits = left.type-inv }) ∙ left.ensures))
+    (to_z-of_z {w = w64} {z = left.result} (record { sfits = left.type_inv }) ∙ left.ensures))

@@ -8,10 +8,9 @@ use lib.Dec.{ltb}
 use lib.IntN.{pos, negsuc, sub_ℕ, ◌-ℤ◌}
 use lib.Signed.{mag}
 use mir.Syntax.{w64}
-use mir.Val.{to_z}
+use mir.Val.{to_z, SFits}
 use mir.Facts.{to_z_pos, to_z-of_z}
 use Rattle.path.proofs.standard.time_left.left.Goals as goal
-use Rattle.path.proofs.standard.time_left.left.Goals.{Start}
 
 -- one natural number less another, as integers
 minus : (a b : ℕ) → pos a -ℤ pos b ≡ sub_ℕ a b
@@ -26,13 +25,18 @@ minus-small a b g h = go (ltb a b)
     go true = omega arith
     go false = omega arith
 
-difference : (c : Start) → to_z w64 c.args.expiry -ℤ to_z w64 c.args.at ≡ sub_ℕ c.args.expiry c.args.at
-difference c =
-    ap₂ ◌-ℤ◌ (to_z_pos w64 {n = c.args.expiry} (omega arith)) (to_z_pos w64 {n = c.args.at} (omega arith))
-    ∙ minus c.args.expiry c.args.at
+difference : (a b : ℕ) → a < 2 ^ 63 → b < 2 ^ 63 → to_z w64 a -ℤ to_z w64 b ≡ sub_ℕ a b
+difference a b g h = ap₂ ◌-ℤ◌ (to_z_pos w64 {n = a} g) (to_z_pos w64 {n = b} h) ∙ minus a b
+
+-- so the difference fits
+fits : (a b : ℕ) → a < 2 ^ 63 → b < 2 ^ 63 → SFits w64 (to_z w64 a -ℤ to_z w64 b)
+fits a b g h = record { sfits = rw (difference a b g h) (minus-small a b g h) }
 
 pub overflow_sub-result : goal.overflow_sub-result
-overflow_sub-result c = record { sfits = rw (difference c) (minus-small c.args.expiry c.args.at (omega arith) (omega arith)) }
+overflow_sub-result c = fits c.args.expiry c.args.at (omega arith) (omega arith)
 
 pub returns : goal.returns
-returns c = to_z-of_z (sub-result c) ∙ difference c
+returns c =
+    let a = c.args.expiry in
+    let b = c.args.at in
+    to_z-of_z (fits a b (omega arith) (omega arith)) ∙ difference a b (omega arith) (omega arith)
