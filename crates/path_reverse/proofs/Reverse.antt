@@ -123,6 +123,7 @@ module _ (f : List ℕ → List ℕ) (sized : Sized f) (k : ℕ) where
     -- the parts that are lent for the last record are of its size
     pub lent : (dst : List ℕ) (to left : ℕ) → 0 < left → Left dst to left
         → let at : ℕ = from + (left - 1) * k in (length (part at (at + k - at) src) ≡ k) × (length (part to (to + k - to) dst) ≡ k)
+    lent dst to zero h i = elim h [ ]
     lent dst to (suc n) h i =
         let more : suc n * k ≡ n * k + k = suc-mul n k in
         let at : ℕ = from + (suc n - 1) * k in
@@ -135,6 +136,7 @@ module _ (f : List ℕ → List ℕ) (sized : Sized f) (k : ℕ) where
     pub step : (dst now : List ℕ) (to left : ℕ) → 0 < left → Left dst to left
         → (let at : ℕ = from + (left - 1) * k in now ≡ f (part at (at + k - at) src))
         → Left (take to dst ++ (now ++ drop (to + k - to) (drop to dst))) (to + k) (left - 1)
+    step dst now to zero h i e = elim h [ ]
     step dst now to (suc n) h i e =
         let more : suc n * k ≡ n * k + k = suc-mul n k in
         let last : List ℕ = f (part (n * k) k (drop from src)) in
@@ -159,6 +161,7 @@ module _ (f : List ℕ → List ℕ) (sized : Sized f) (k : ℕ) where
     pub done : (dst : List ℕ) (to left : ℕ) → left ≤ 0 → Left dst to left → dst ≡ goal
     unfolding reversed_records records flat_map
     done dst to zero h i = i.writes
+    done dst to (suc _) h i = elim h [ ]
 
 -- THE WHOLE PATH
 

@@ -6,20 +6,18 @@ use native.Mathlib.Omega.{arith}
 use lib.ListN.{length, take}
 use lib.Seq.{length-take-le}
 use Rattle.wire_encoding.proofs.Writes.{placed_is, front-written}
+use Rattle.path.specs.Dataplane.{dataplane_read, read_dataplane}
+use Rattle.path.specs.declared.dataplane.DataplaneRead.{DataplaneRead}
 use Rattle.path.proofs.Reading.{length_inside, read_ok, read_refused, path-given}
 use Rattle.path_reverse.specs.Copy.{copy, written_path}
 use Rattle.path_reverse.proofs.Copy.{into_enough, into_fewer, front_run}
 use Rattle.path_reverse.proofs.Expiry.{path_copied}
 use Rattle.path_reverse.proofs.copy_to_slice.Goals as goal
-use Rattle.path_reverse.proofs.copy_to_slice.Goals.{In_default}
 
 -- as many bytes as reading says
-run_length : (c : In_default)
-    → let decode = c.before.before.decode in
-    length (take decode.result.length c.before.before.before.before.before.args.bytes.now) ≡ decode.result.length
-run_length c =
-    let a = c.args in
-    length-take-le _ _ (rw (← c.decode-read.ensures.value) at (length_inside a.bytes.now a.path.path_type))
+run_length : (bytes : List ℕ) (type : ℕ) {read : DataplaneRead} → read ≡ dataplane_read (read_dataplane type bytes)
+    → length (take read.length bytes) ≡ read.length
+run_length bytes type is = length-take-le _ _ (rw (← is) at (length_inside bytes type))
 
 pub returns-in-Refused : goal.returns-in-Refused
 unfolding copy written_path
@@ -31,7 +29,7 @@ unfolding copy written_path
 returns-then-dst-read c =
     let read = read_ok _ c.decode-read.ensures.value c.in_default.is in
     let a = c.args in
-    rw (read, into_fewer _ a.dst.now (run_length c.before.before.before) c.if-dst-read.true) (record { value = c.refused-then-dst-read.ensures; dst_after = refl })
+    rw (read, into_fewer _ a.dst.now (run_length a.bytes.now a.path.path_type c.decode-read.ensures.value) c.if-dst-read.true) (record { value = c.refused-then-dst-read.ensures; dst_after = refl })
 
 pub returns : goal.returns
 unfolding copy written_path
@@ -41,7 +39,7 @@ returns c =
     let a = c.args in
     let n : ℕ = c.decode-read.result.length in
     let run : List ℕ = take n a.bytes.now in
-    let long = run_length c.before.before.before.before.before.before.before.before in
+    let long = run_length a.bytes.now a.path.path_type decode in
     let room = c.if-dst-read.false in
     let written = placed_is a.dst.now 0 run n long (omega (arith, room)) ∙ front-written run a.dst.now n long room in
     rw (read, into_enough run a.dst.now long room, front_run run a.dst.now long, path_copied _ _ read, ← path-given _ _ decode)

@@ -11,7 +11,8 @@ use Rattle.path_reverse.proofs.reverse_to_slice.Goals as goal
 pub returns-then-path-ne-SCION : goal.returns-then-path-ne-SCION
 returns-then-path-ne-SCION c =
     let a = c.args in
-    rw (reverse_copies a.path.path_type a.bytes.now a.dst.now c.if-path-ne-SCION.true) c.copy_to_slice.ensures
+    rw (reverse_copies a.path.path_type a.bytes.now a.dst.now c.if-path-ne-SCION.true)
+    (record { value = c.copy_to_slice.ensures.value; dst_after = c.copy_to_slice.ensures.dst_after })
 
 pub returns-in-Refused : goal.returns-in-Refused
 unfolding written_path
