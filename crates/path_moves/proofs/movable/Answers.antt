@@ -1,19 +1,9 @@
 -- `movable` meets its contract: reading and the type, then the tests in their order; a path that was read is whole.
-use mathlib.Core.Path.{◌≡◌}
 use borrow.Author.Tests.{le-leb, lt-leb}
-use Rattle.wire_encoding.specs.Result.{ok}
 use Rattle.path.specs.Dataplane.{standard, path_of, path_answer}
 use Rattle.path.proofs.Reading.{answer_ok, answer_refused, record_is, standard_readable}
 use Rattle.path_moves.specs.Rules.{movable}
 use Rattle.path_moves.proofs.movable.Goals as goal
-use Rattle.path_moves.proofs.movable.Goals.{In_default}
-
--- the path was read
-read : (c : In_default)
-    → let call = c.before.before in
-    let a = call.before.before.args in
-    standard a.path.path_type a.bytes.now ≡ ok call.standard.result.path.meta_header
-read c = answer_ok _ _ c.standard-read.ensures c.in_default.is
 
 pub returns-in-Refused : goal.returns-in-Refused
 unfolding movable path_answer
@@ -23,16 +13,16 @@ returns-in-Refused c =
 pub returns-then-hop_fields_count-gt64 : goal.returns-then-hop_fields_count-gt64
 unfolding movable path_answer
 returns-then-hop_fields_count-gt64 c =
-    rw (read c.before.before.before.before, ← c.hop_fields_count.ensures.0, lt-leb _ _ c.if-hop_fields_count-gt64.true) c.refused-then-hop_fields_count-gt64.ensures
+    rw (answer_ok _ _ c.standard-read.ensures c.in_default.is, ← c.hop_fields_count.ensures.0, lt-leb _ _ c.if-hop_fields_count-gt64.true) c.refused-then-hop_fields_count-gt64.ensures
 
 pub peering_allowed-requires : goal.peering_allowed-requires
-peering_allowed-requires c = (standard_readable _ _ (read c.before.before.before)).whole
+peering_allowed-requires c = (standard_readable _ _ (answer_ok _ _ c.standard-read.ensures c.in_default.is)).whole
 
 pub returns-then-peering_allowed : goal.returns-then-peering_allowed
 unfolding movable path_answer
 returns-then-peering_allowed c =
     rw (
-      read c.before.before.before.before.before.before,
+      answer_ok _ _ c.standard-read.ensures c.in_default.is,
       ← c.hop_fields_count.ensures.0,
       le-leb _ _ c.if-hop_fields_count-gt64.false,
       ← c.peering_allowed.ensures,
@@ -45,7 +35,7 @@ pub returns : goal.returns
 unfolding movable path_answer
 returns c =
     rw (
-      read c.before.before.before.before.before.before,
+      answer_ok _ _ c.standard-read.ensures c.in_default.is,
       ← c.hop_fields_count.ensures.0,
       le-leb _ _ c.if-hop_fields_count-gt64.false,
       ← c.peering_allowed.ensures,

@@ -5,22 +5,13 @@ use native.Mathlib.Omega.{arith}
 use borrow.Author.Tests.{eq-eqb}
 use Rattle.path_meta_header.specs.MetaHeader.{hop_fields_count}
 use Rattle.path.specs.Dataplane.{written_answer}
+use borrow.Author.Rules.{rules}
+use Rattle.wire_encoding.proofs.Lists.{Bytes}
 use Rattle.path.proofs.Reading.{answer_refused}
-use Rattle.path_moves.specs.Moves.{CanMove, move, moved, is_last}
+use Rattle.path_moves.specs.Moves.{move, moved, is_last}
 use Rattle.path_moves.proofs.Moves.{can_move, one_move, path-moved}
 use Rattle.path_moves.proofs.Rules.{movable_ok, goes_on}
 use Rattle.path_moves.proofs.single_move.Goals as goal
-use Rattle.path_moves.proofs.single_move.Goals.{After-step-arg-1}
-
--- the path can be moved
-can : (c : After-step-arg-1)
-    → let told = c.before.before.before.before.before in
-    CanMove told.before.before.before.before.before.args.bytes.now told.before.before.movable.result.path.meta_header
-can c =
-    let hop = c.wide.ensures in
-    let count = c.hop_fields_count.ensures in
-    can_move _ _ (goes_on _ _ c.movable-read.ensures c.in_default.is).1
-    (λ last. c.if-wide-hop_fields_count.false (omega arith))
 
 pub returns-in-Refused : goal.returns-in-Refused
 unfolding moved move written_answer
@@ -40,14 +31,19 @@ returns-then-wide-hop_fields_count c =
     (record { value = c.refused-then-wide-hop_fields_count.ensures; bytes_after = refl })
 
 pub step-left-requires : goal.step-left-requires
-step-left-requires c = can c
+step-left-requires c =
+    let hop = c.wide.ensures in
+    let count = c.hop_fields_count.ensures in
+    can_move _ _ (goes_on _ _ c.movable-read.ensures c.in_default.is).1 (λ last. c.if-wide-hop_fields_count.false (omega arith))
 
 pub returns : goal.returns
 unfolding moved written_answer
 returns c =
     let a = c.args in
-    let bytes = c.slice_known-1.given in
-    let here = can c.before.before.before.before in
+    let bytes : Bytes a.bytes.now = λ i. search rules in
     let known = goes_on a.path.path_type a.bytes.now c.movable-read.ensures c.in_default.is in
+    let hop = c.wide.ensures in
+    let count = c.hop_fields_count.ensures in
+    let here = can_move a.bytes.now c.movable-read.result.path.meta_header known.1 (λ last. c.if-wide-hop_fields_count.false (omega arith)) in
     rw (known.0, one_move _ _ here)
     (record { value = rw (path-moved _ _ here bytes, ← c.step-left.ensures.value, ← known.2) c.accepted.ensures; bytes_after = c.step-left.ensures.bytes_after })

@@ -1,6 +1,8 @@
 -- `step` meets its contract: it applies the move from the header's own position, whose pointers fit their bits.
 use mathlib.Core.Path.{sym, ◌∙◌}
 use native.Mathlib.Omega.{arith}
+use borrow.Author.Rules.{rules}
+use Rattle.wire_encoding.proofs.Lists.{Bytes}
 use Rattle.path_moves.specs.Moves.{moved_meta}
 use Rattle.path_moves.proofs.Moves.{standing, fits, move-applied}
 use Rattle.path_moves.proofs.step.Goals as goal
@@ -13,10 +15,12 @@ apply-requires c =
 pub returns : goal.returns
 unfolding moved_meta
 returns c =
-    let bytes = c.type_inv.bytes in
-    let s = standing _ _ c.requires in (
-      c.at_position.ensures ∙ rw (c.moved-moved.ensures, c.of-position.ensures),
-      c.apply.ensures
+    let bytes : Bytes c.args.bytes.now = λ i. search rules in
+    let s = standing _ _ c.requires in
+    record {
+      value = c.at_position.ensures ∙ rw (c.moved-moved.ensures, c.of-position.ensures);
+      bytes_after =
+          c.apply.ensures
           ∙ rw (c.wide.ensures.0, c.moved-moved.ensures, c.of-position.ensures)
-          (sym (move-applied c.args.bytes.now c.args.meta_header bytes (omega arith))),
-    )
+          (sym (move-applied c.args.bytes.now c.args.meta_header bytes (omega arith)));
+    }

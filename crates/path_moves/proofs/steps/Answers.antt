@@ -17,7 +17,7 @@ pub loop-moves-preserved : goal.loop-moves-preserved
 loop-moves-preserved c =
     let inv = c.loop-moves.invariant in
     let made = c.step-meta_header.ensures in
-    (next _ _ _ _ inv.0 inv.1 (omega arith) made.0 made.1, c.type_inv.bytes, omega arith)
+    (next _ _ _ _ inv.0 inv.1 (omega arith) made.value made.bytes_after, c.type_inv.bytes, omega arith)
 
 pub shape_of-bytes-after-loop-moves : goal.shape_of-bytes-after-loop-moves
 shape_of-bytes-after-loop-moves c = c.loop-moves.invariant.0.len
