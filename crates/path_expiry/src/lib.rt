@@ -1,5 +1,6 @@
 // How long a path is valid: the expiry of its segments and of the whole path, and the time left.
 #![tactic(auto)]
+
 ghost use Rattle.std.specs.Prelude.{◌≡◌};
 ghost use Rattle.wire_encoding.specs.Result.{refused};
 ghost use Rattle.errors.specs.declared.path_error.Answer.TheVariants as answers;

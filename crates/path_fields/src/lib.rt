@@ -1,5 +1,6 @@
 // The info fields and hop fields of a standard path, read from parts of exactly 8 and 12 bytes.
 #![tactic(auto)]
+
 ghost use Rattle.std.specs.Prelude.{◌≡◌, ◌+◌, ◌≤◌};
 ghost use Rattle.wire_encoding.specs.Bits.{bit_of};
 ghost use Rattle.path_fields.specs.Fields as spec;

@@ -1,5 +1,6 @@
 // Runs of hop fields, read from either end: functions on their bytes, the view that holds them, and the run that a path's hop fields are.
 #![tactic(auto)]
+
 pub mod run;
 pub mod view;
 

@@ -1,5 +1,6 @@
 // The interfaces of a path in the order of travel.
 #![tactic(auto)]
+
 ghost use Rattle.std.specs.Prelude.{◌≡◌};
 ghost use Rattle.wire_encoding.specs.Result.{refused};
 ghost use Rattle.path_meta_header.specs.MetaHeader as meta;

@@ -1,5 +1,6 @@
 // When a path expires: the least expiry of its hop fields, by segment and of the whole path.
 #![tactic(auto)]
+
 ghost use Rattle.std.specs.Prelude.{◌≡◌, ◌+◌, ◌-◌, ◌/◌, ◌≤◌, ◌<◌, min, length};
 ghost use Rattle.wire_encoding.specs.BigEndian.{big_endian};
 ghost use Rattle.path_meta_header.specs.MetaHeader as meta;

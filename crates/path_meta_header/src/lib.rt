@@ -1,5 +1,6 @@
 // The meta header of a standard path, by value: read, written, reversed.
 #![tactic(auto)]
+
 ghost use Rattle.std.specs.Prelude.{◌≡◌, ◌≤◌, ◌<◌, ◌∷◌, [], length};
 ghost use Rattle.wire_encoding.specs.Result.{refused, or_else};
 ghost use Rattle.errors.specs.Errors.{encoded_of};

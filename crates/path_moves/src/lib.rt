@@ -1,5 +1,6 @@
 // Moves: how a packet's path goes from hop field to hop field. Move, walk, owner and spared are document 01's words.
 #![tactic(auto)]
+
 ghost use Rattle.std.specs.Prelude.{◌≡◌, ◌+◌, ◌≤◌, ◌<◌, length};
 ghost use Rattle.path.specs.Standard.{info_at};
 ghost use Rattle.path_meta_header.specs.MetaHeader.{path_length, info_start};

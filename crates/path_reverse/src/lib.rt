@@ -1,5 +1,6 @@
 // Path reversal, which document 01 calls a turn, and copying: a path written into lent bytes.
 #![tactic(auto)]
+
 ghost use Rattle.std.specs.Prelude.{◌≡◌, true, ◌++◌, ◌+◌, ◌*◌, ◌≤◌, length, drop};
 ghost use Rattle.std.proofs.lemmas.List.Edits.{sets};
 ghost use Rattle.errors.specs.declared.path_error.Answer.TheVariants as answers;

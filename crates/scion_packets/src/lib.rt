@@ -1,5 +1,6 @@
 // What calls on packets take from C and hand to it, in the layout of include/scion_proto.h, and how it is made.
 #![tactic(auto)]
+
 ghost use Rattle.std.specs.Prelude.{◌≡◌, ◌*◌, ltb};
 ghost use Rattle.scion_packets.specs.Packets as spec;
 

@@ -1,5 +1,6 @@
 // What calls on paths hand to C, in the layout of include/scion_proto.h, and how it is made.
 #![tactic(auto)]
+
 ghost use Rattle.std.specs.Prelude.{◌≡◌};
 ghost use Rattle.scion_paths.specs.Answer.{answer_out, decoded_out};
 ghost use Rattle.scion_paths.specs.Paths as spec;

@@ -1,4 +1,5 @@
 // The calls for C, in the names of include/scion_proto.h.
 #![tactic(auto)]
+
 pub mod packets;
 pub mod paths;

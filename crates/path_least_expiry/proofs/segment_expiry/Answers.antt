@@ -19,17 +19,16 @@ least_exp_time-requires c =
     simp (length-take, length-drop) (omega (arith, lies.hops, lies.one))
 
 pub returns : goal.returns
-returns c =
-    (
-      rw (
-        c.expiry.ensures.0,
-        c.timestamp_at-timestamp.ensures,
-        c.least_exp_time.ensures,
-        c.hop_fields_start.ensures.0,
-        c.first_hop_field.ensures.0,
-        c.segment_length.ensures.0,
-        add-sub_cancel_left,
-      )
-          (expiry_by_run _ _ _ c.requires.0 c.requires.1),
-      c.expiry.ensures.1,
-    )
+returns c = (
+  rw (
+    c.expiry.ensures.0,
+    c.timestamp_at-timestamp.ensures,
+    c.least_exp_time.ensures,
+    c.hop_fields_start.ensures.0,
+    c.first_hop_field.ensures.0,
+    c.segment_length.ensures.0,
+    add-sub_cancel_left,
+  )
+      (expiry_by_run _ _ _ c.requires.0 c.requires.1),
+  c.expiry.ensures.1,
+)

@@ -17,8 +17,8 @@ returns-then-dst-eq-LENGTH c =
     let known = word_is m (rw c.in-Value.is at c.as_u32.ensures) in
     let size = c.if-dst-eq-LENGTH.true in
     let both =
-        written (write_meta m (length c.args.dst.now)) c.args.dst.now (meta_written m _ known.0 size)
-        (rw known.1 at c.put_u32.ensures.dst_after ∙ placed-whole (bytes_of 4 (word_of m)) _ (length_bytes_of 4 (word_of m) ∙ sym size)) in
+    written (write_meta m (length c.args.dst.now)) c.args.dst.now (meta_written m _ known.0 size)
+    (rw known.1 at c.put_u32.ensures.dst_after ∙ placed-whole (bytes_of 4 (word_of m)) _ (length_bytes_of 4 (word_of m) ∙ sym size)) in
     record { value = both.0; dst_after = both.1 }
 
 pub returns-else-dst-eq-LENGTH : goal.returns-else-dst-eq-LENGTH

@@ -56,8 +56,8 @@ unfolding move_from change_of
 returns-then-is_spared c =
     let a = c.args in
     let taken =
-        taken_is a.bytes.now a.meta_header a.self c.wide-segment.ensures.0 c.wide-hop.ensures.0 c.segment_of-next.ensures.0 c.if-next-segment.false
-        c.info_field_at-info_field.ensures c.owner_of-owner.ensures.0 c.segment_length.ensures.0 c.is_spared.ensures in
+    taken_is a.bytes.now a.meta_header a.self c.wide-segment.ensures.0 c.wide-hop.ensures.0 c.segment_of-next.ensures.0 c.if-next-segment.false
+    c.info_field_at-info_field.ensures c.owner_of-owner.ensures.0 c.segment_length.ensures.0 c.is_spared.ensures in
     rw (taken, c.if-is_spared.true, ← c.wide-hop.ensures.0, ← c.segment_of-next.ensures.0)
 
 pub returns : goal.returns
@@ -69,8 +69,8 @@ returns c =
     let read = c.info_field_at-info_field.ensures in
     let owner = c.owner_of-owner.ensures.0 in
     let taken =
-        taken_is a.bytes.now a.meta_header a.self segment c.wide-hop.ensures.0 c.segment_of-next.ensures.0 c.if-next-segment.false
-        read owner c.segment_length.ensures.0 c.is_spared.ensures in
+    taken_is a.bytes.now a.meta_header a.self segment c.wide-hop.ensures.0 c.segment_of-next.ensures.0 c.if-next-segment.false
+    read owner c.segment_length.ensures.0 c.is_spared.ensures in
     let owner_at = c.hop_fields_start.result + c.owner_of-owner.result * 12 in
     rw (
       taken,
