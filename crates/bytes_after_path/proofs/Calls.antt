@@ -10,7 +10,7 @@ use lib.ListN.{length, take, drop, get_or, set, length-drop, get_or-append}
 use lib.Seq.{take-append-le, drop-append-le}
 use borrow.Author.Tests.{ltb-true, eqb-true}
 use Rattle.wire_encoding.specs.Result.{Result, ok, refused, require, and_then, mapped}
-use Rattle.wire_encoding.specs.BigEndian.{part, records}
+use Rattle.wire_encoding.specs.BigEndian.{records}
 use Rattle.wire_encoding.specs.Bits.{with_bit}
 use Rattle.wire_encoding.proofs.Lists.{part_left, set-left}
 use Rattle.wire_encoding.proofs.BigEndian.{records-left}

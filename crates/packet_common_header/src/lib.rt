@@ -1,5 +1,6 @@
 // The common header of a packet, by value: read from bytes, and written as bytes.
 #![tactic(auto)]
+
 ghost use Rattle.std.specs.Prelude.{◌≡◌, ◌≤◌, ◌<◌, length};
 ghost use Rattle.packet_common_header.specs.CommonHeader as spec;
 ghost use Rattle.wire_encoding.specs.Result.{or_else, refused};

@@ -20,7 +20,6 @@ use Rattle.path.specs.Dataplane.{standard, segment_in, hop_field_in, part_in}
 use Rattle.path.specs.declared.standard.Part.{Part}
 use Rattle.path_meta_header.proofs.MetaHeader.{segment_within}
 use Rattle.path.proofs.Reading.{standard_readable}
-use Rattle.path_hop_fields.specs.Run.{count}
 use Rattle.path_hop_fields.specs.PathRuns.{hop_fields_in, Run, SegmentRuns, PathRuns}
 
 -- a path that was read, of which n hop fields are looked at, hop field `at` and those that follow

@@ -1,7 +1,5 @@
 -- `some_peering` meets its contract: none of the info fields before the k-th has peering, and the first that has it decides.
-use Prim.Native.Nat.{◌-◌}
 use mathlib.Core.Path.{◌≡◌, refl, sym, ap, ◌∙◌}
-use mathlib.Core.Bool.{false}
 use native.Mathlib.Omega.{arith}
 use native.Mathlib.Numerals.{add-one}
 use Rattle.path_fields.specs.Fields.{peering}

@@ -2,7 +2,6 @@
 use Prim.Native.Nat.{◌≤◌, ◌-◌}
 use mathlib.Core.Path.{◌≡◌}
 use mathlib.Core.Bool.{false}
-use Rattle.path_fields.specs.Fields.{peering}
 use Rattle.path_moves.specs.Rules.{some_peering}
 use Rattle.path_moves.proofs.some_peering.Given as goal
 

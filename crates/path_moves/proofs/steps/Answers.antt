@@ -1,6 +1,5 @@
 -- `steps` meets its contract: the bytes are those of so many single moves, each of which leaves a path that can be moved; each turn of
 -- the loop uses up one of the limit.
-use Prim.Native.Nat.{◌-◌}
 use native.Mathlib.Omega.{arith}
 use Rattle.path_moves.specs.Moves.{walk_moves}
 use Rattle.path_moves.proofs.Walks.{begin, can, next, stands}

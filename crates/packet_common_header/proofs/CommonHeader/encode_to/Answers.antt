@@ -5,17 +5,16 @@ use mathlib.Core.Bool.{Bool, true}
 use Prim.Native.Nat.{◌<◌, ◌^◌}
 use lib.ListN.{length}
 use native.Mathlib.Omega.{arith}
-use borrow.Author.Tests.{eq-eqb, ne_eqb, not-true, not-false}
+use borrow.Author.Tests.{eq-eqb, ne_eqb}
 use Rattle.errors.specs.Errors.{encoded_of}
 use Rattle.errors.proofs.Errors.{written}
 use Rattle.wire_encoding.proofs.Writes.{placed-whole}
 use Rattle.packet_common_header.specs.declared.CommonHeader.{CommonHeader}
 use Rattle.packet_common_header.specs.CommonHeader.{fields_fit, common_fits, common_bytes, write_common}
-use Rattle.packet_common_header.proofs.CommonHeaderLaws.{length-common_bytes, Widths, common_widths, common_written, Fields, first_fits}
+use Rattle.packet_common_header.proofs.CommonHeaderLaws.{length-common_bytes, common_widths, common_written, Fields, first_fits}
 use Rattle.packet_common_header.proofs.CommonHeaderLaws.{common_digits}
 use borrow.Author.Rules.{rules}
 use Rattle.packet_common_header.proofs.CommonHeader.encode_to.Goals as goal
-use Rattle.packet_common_header.proofs.CommonHeader.encode_to
 
 -- the numbers fit
 fits : (h : CommonHeader) (told : Bool) → told ≡ fields_fit h.version h.flow_id h.destination_kind h.source_kind → told ≡ true
@@ -62,5 +61,5 @@ returns c =
     let digits = common_digits header (typed header fit (search rules) (search rules) (search rules)) in
     let exact = c.if-dst-ne-LENGTH.false in
     let both = written (write_common header (length args.dst.now)) args.dst.now (common_written header _ fit c.if-self-eq0.false exact)
-        (rw digits at c.put_slice.ensures.dst_after ∙ placed-whole (common_bytes header) args.dst.now (length-common_bytes header ∙ sym exact)) in
+    (rw digits at c.put_slice.ensures.dst_after ∙ placed-whole (common_bytes header) args.dst.now (length-common_bytes header ∙ sym exact)) in
     record { value = both.0; dst_after = both.1 }

@@ -1,7 +1,6 @@
 -- `check` meets its contract: the three rules, in their order.
 use mathlib.Core.Path.{◌≡◌, sym, ◌∙◌}
 use mathlib.Core.Bool.{true}
-use borrow.Author.Tests.{not-true, not-false}
 use Rattle.path_meta_header.specs.MetaHeader.{lengths_valid, info_valid, checked, meta_read}
 use Rattle.path_meta_header.proofs.MetaHeader.{wrong_lengths}
 use Rattle.path_meta_header.proofs.PathMetaHeader.check.Goals as goal

@@ -1,6 +1,6 @@
 -- `read_big_endian` meets its contract: after i turns the number is that of the first i bytes.
 use borrow.Author.Rules.{rules}
-use Prim.Native.Nat.{◌+◌, ◌-◌}
+use Prim.Native.Nat.{◌+◌}
 use mathlib.Core.Path.{◌≡◌}
 use native.Mathlib.Omega.{arith}
 use Rattle.wire_encoding.specs.BigEndian.{big_endian}

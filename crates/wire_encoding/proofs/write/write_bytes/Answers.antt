@@ -1,6 +1,5 @@
 -- `write_bytes` meets its contract: what is left, written to the bytes as they are now, gives what is wanted.
 use mathlib.Core.Path.{refl}
-use Prim.Native.Nat.{◌-◌}
 use native.Mathlib.Nat.{add-zero}
 use native.Mathlib.Omega.{arith}
 use Rattle.wire_encoding.proofs.Writes.{run_step, run_done}
