@@ -40,19 +40,19 @@ long c =
 pub returns-then-dst-encoded_length : goal.returns-then-dst-encoded_length
 unfolding write_address encoded_of
 returns-then-dst-encoded_length c =
-    let path = goal.at.returns-then-dst-encoded_length c in
-    let kind = kinds path.After-on_wire-wire in
-    let other = rw (long path.After-encoded_length) at c.if-dst-encoded_length.true in
+    let way = goal.at.returns-then-dst-encoded_length c in
+    let kind = kinds way.After-on_wire-wire in
+    let other = rw (long way.After-encoded_length) at c.if-dst-encoded_length.true in
     rw (lt-ltb _ _ (rw kind.0 at c.if-wire-ge16.false), lt-ltb _ _ (rw kind.1 at c.if-wire-ge16-2.false), ne_eqb _ _ other)
     (record { value = refl; dst_after = refl })
 
 pub returns : goal.returns
 returns c =
     let a = c.args.self in
-    let path = goal.at.returns c in
-    let kind = kinds path.After-on_wire-wire in
+    let way = goal.at.returns c in
+    let kind = kinds way.After-on_wire-wire in
     let sixteen : Sixteen a = record { destination_sixteen = search rules; source_sixteen = search rules } in
-    let exact = c.if-dst-encoded_length.false ∙ long path.After-encoded_length in
+    let exact = c.if-dst-encoded_length.false ∙ long way.After-encoded_length in
     let accepted = address_written a _ (rw kind.0 at c.if-wire-ge16.false) (rw kind.1 at c.if-wire-ge16-2.false) exact in
     let bytes = rw (c.on_wire-wire.ensures, bytes_on_wire a) at c.put.ensures.dst_after in
     let whole = bytes ∙ placed-whole (address_bytes a) c.args.dst.now (length-address_bytes a sixteen ∙ sym exact) in

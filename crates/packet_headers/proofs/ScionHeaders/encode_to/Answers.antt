@@ -58,13 +58,13 @@ filled c = sym (rw (long c, c.path_length-added.ensures) at c.fills.ensures)
 pub returns-then-not-fills : goal.returns-then-not-fills
 unfolding write_headers encoded_of
 returns-then-not-fills c =
-    let path = goal.at.returns-then-not-fills c in
+    let way = goal.at.returns-then-not-fills c in
     rw (
-      fits path.After-fields_fit ∙ c.if-not-fields_fit.false,
+      fits way.After-fields_fit ∙ c.if-not-fields_fit.false,
       ne_eqb _ _ c.if-self-eq0.false,
       le-leb _ _ c.if-self-gt255.false,
       le-leb _ _ c.if-self-gt65535.false,
-      filled path.After-fills,
+      filled way.After-fills,
       c.if-not-fills.true,
     )
     (record { value = refl; dst_after = refl })
@@ -81,16 +81,16 @@ slice_bounds-put_slice-end c =
 pub returns : goal.returns
 unfolding common_of on_wire host_on_wire
 returns c =
-    let path = goal.at.returns c in
+    let way = goal.at.returns c in
     let args = c.args in
     let sixteen : Sixteen args.self.address = record { destination_sixteen = search rules; source_sixteen = search rules } in
     let wire = c.on_wire-wire.ensures in
-    let fit = fits path.After-fields_fit ∙ c.if-not-fields_fit.false in
-    let exact = eqb-true _ _ (filled path.After-fills ∙ c.if-not-fills.false) in
+    let fit = fits way.After-fields_fit ∙ c.if-not-fields_fit.false in
+    let exact = eqb-true _ _ (filled way.After-fills ∙ c.if-not-fills.false) in
     let accepted = headers-written args.self args.path.now _ fit c.if-self-eq0.false c.if-self-gt255.false c.if-self-gt65535.false exact in
     let all = three_written args.self args.path.now args.dst.now sixteen exact fit c.if-self-eq0.false
     (rw (wire, bytes_on_wire args.self.address) at c.put.ensures.dst_after)
     (rw wire at c.encode_to.ensures.dst_after)
-    (rw (long path.After-fills, c.path_length-added.ensures) at c.put_slice.ensures.dst_after) in
+    (rw (long way.After-fills, c.path_length-added.ensures) at c.put_slice.ensures.dst_after) in
     let both = written _ _ accepted all in
     record { value = both.0; dst_after = both.1 }
