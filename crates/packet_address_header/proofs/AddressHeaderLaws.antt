@@ -244,8 +244,8 @@ end_written host dst number at to before inside e₁ e₂ =
     ∙ sym (sets_apart (bytes_of 8 number) host dst at to (omega arith))
 
 -- both ends
-module _ (w : WireAddress) (s : WireSixteen w) (dst : List ℕ) (at source-at : ℕ)
-    (after : source-at ≡ at + 16 + host_length w.destination.kind) where
+module _ (w : WireAddress) (s : WireSixteen w) (dst : List ℕ) (at source_at : ℕ)
+    (after : source_at ≡ at + 16 + host_length w.destination.kind) where
   -- the two networks and the two hosts
   abbrev to : List ℕ
   to = bytes_of 8 w.destination_ia
@@ -260,25 +260,25 @@ module _ (w : WireAddress) (s : WireSixteen w) (dst : List ℕ) (at source-at : 
   src_host = wire_host_bytes w.source
 
   -- side by side they are the header
-  in_row : sets (sets (sets (sets dst at to) (at + 16) dst_host) (at + 8) from) source-at src_host ≡ sets dst at (wire_bytes w)
+  in_row : sets (sets (sets (sets dst at to) (at + 16) dst_host) (at + 8) from) source_at src_host ≡ sets dst at (wire_bytes w)
   unfolding wire_bytes
   in_row =
       let first : List ℕ = sets dst at to in
       let eight : length from ≡ 8 = length_bytes_of 8 w.source_ia in
       let own : length dst_host ≡ host_length w.destination.kind = length-wire_host_bytes w.destination s.destination_sixteen in
-      ap (λ (l : List ℕ). sets l source-at src_host) (sym (sets_apart from dst_host first (at + 8) (at + 16) (omega arith)))
-      ∙ written_next dst_host src_host (sets first (at + 8) from) (at + 16) _ source-at own (sym after)
+      ap (λ (l : List ℕ). sets l source_at src_host) (sym (sets_apart from dst_host first (at + 8) (at + 16) (omega arith)))
+      ∙ written_next dst_host src_host (sets first (at + 8) from) (at + 16) _ source_at own (sym after)
       ∙ written_next from (dst_host ++ src_host) first (at + 8) 8 (at + 16) eight (omega arith)
       ∙ written_next to (from ++ (dst_host ++ src_host)) dst at 8 (at + 8) (length_bytes_of 8 _) refl
 
   -- each host written, and then its network
-  pub ends-written : at + wire_length w ≤ length dst → {one two three four : List ℕ} → one ≡ sets dst (at + 16) dst_host → two ≡ placed one at to
-      → three ≡ sets two source-at src_host → four ≡ placed three (at + 8) from → four ≡ sets dst at (wire_bytes w)
+  pub ends_written : at + wire_length w ≤ length dst → {one two three four : List ℕ} → one ≡ sets dst (at + 16) dst_host → two ≡ placed one at to
+      → three ≡ sets two source_at src_host → four ≡ placed three (at + 8) from → four ≡ sets dst at (wire_bytes w)
   unfolding wire_length length_of_kinds
-  ends-written room {two = two} e₁ e₂ e₃ e₄ =
+  ends_written room {two = two} e₁ e₂ e₃ e₄ =
       let first : two ≡ sets (sets dst at to) (at + 16) dst_host =
       end_written dst_host dst w.destination_ia at (at + 16) (omega arith) (omega arith) e₁ e₂ in
       let kept : length two ≡ length dst = ap length first ∙ length-sets (sets dst at to) (at + 16) dst_host ∙ length-sets dst at to in
-      end_written src_host two w.source_ia (at + 8) source-at (omega arith) (omega (arith, kept)) e₃ e₄
-      ∙ ap (λ (l : List ℕ). sets (sets l (at + 8) from) source-at src_host) first
+      end_written src_host two w.source_ia (at + 8) source_at (omega arith) (omega (arith, kept)) e₃ e₄
+      ∙ ap (λ (l : List ℕ). sets (sets l (at + 8) from) source_at src_host) first
       ∙ in_row

@@ -10,25 +10,25 @@ pub returns-then-bytes-end : goal.returns-then-bytes-end
 unfolding address_answer
 returns-then-bytes-end c =
     let args = c.args in
-    let short = rw (c.address_length.ensures.0, c.address_length.ensures.0) at c.if-bytes-end.true in
+    let short = rw (c.address_length-after.ensures.0, c.address_length.ensures.0) at c.if-bytes-end.true in
     rw (c.zero-header.ensures, truncated args.bytes.now (args.host_kinds / 16) (args.host_kinds % 16) short)
 
 pub read-destination-requires : goal.read-destination-requires
 read-destination-requires c =
-    omega (arith, c.address_length.ensures.0, c.if-bytes-end.false)
+    omega (arith, c.address_length-after.ensures.0, c.if-bytes-end.false)
 
 pub read-source-requires : goal.read-source-requires
 read-source-requires c =
-    omega (arith, c.address_length.ensures.0, c.if-bytes-end.false)
+    omega (arith, c.address_length-after.ensures.0, c.address_length.ensures.0, c.if-bytes-end.false)
 
 pub returns : goal.returns
 unfolding address_at address_answer length_of_kinds
 returns c =
     let args = c.args in
     let bytes = args.bytes.now in
-    let destination-long = c.address_length.ensures.0 in
-    let source-long = c.address_length.ensures.0 in
-    let read = address_read_lem bytes (args.host_kinds / 16) (args.host_kinds % 16) (omega (arith, c.if-bytes-end.false, destination-long, source-long)) in
+    let destination_long = c.address_length-after.ensures.0 in
+    let source_long = c.address_length.ensures.0 in
+    let read = address_read_lem bytes (args.host_kinds / 16) (args.host_kinds % 16) (omega (arith, c.if-bytes-end.false, destination_long, source_long)) in
     let long = address_length_lem bytes (args.host_kinds / 16) (args.host_kinds % 16) in
     rw (
       read,
@@ -39,6 +39,6 @@ returns c =
       or_zero_is 8 bytes 8 (omega arith),
       c.read-source.ensures,
       c.read-destination.ensures,
-      destination-long,
-      source-long,
+      destination_long,
+      source_long,
     )

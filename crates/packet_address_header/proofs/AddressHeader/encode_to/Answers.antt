@@ -9,11 +9,11 @@ use Rattle.packet_address_header.specs.AddressHeader.{kind_of, address_length, a
 use Rattle.packet_address_header.proofs.AddressHeaderLaws.{Sixteen, length_on_wire, bytes_on_wire, length-address_bytes, address_written}
 use borrow.Author.Rules.{rules}
 use Rattle.packet_address_header.proofs.AddressHeader.encode_to.Goals as goal
-use Rattle.packet_address_header.proofs.AddressHeader.encode_to.Goals.{After-encoded_length, After-on_wire-wire, Start}
+use Rattle.packet_address_header.proofs.AddressHeader.encode_to.Goals.{After-encoded_length, After-on_wire-wire}
 
 -- the kinds that are tested are the hosts'
-kinds : (c : After-on_wire-wire) → let wire = c.on_wire.result in
-    let a = c.before.before.args.self in
+kinds : (c : After-on_wire-wire) → let wire = c.on_wire-wire.result in
+    let a = c.args.self in
     (wire.destination.kind ≡ kind_of a.destination.host) × (wire.source.kind ≡ kind_of a.source.host)
 unfolding on_wire host_on_wire
 kinds c =
@@ -22,38 +22,39 @@ kinds c =
 pub returns-then-wire-ge16 : goal.returns-then-wire-ge16
 unfolding write_address encoded_of
 returns-then-wire-ge16 c =
-    rw (le-ltb _ _ (rw (kinds c.before.before).0 at c.if-wire-ge16.true)) (record { value = refl; dst_after = refl })
+    let kind = kinds (goal.at.returns-then-wire-ge16 c).After-on_wire-wire in
+    rw (le-ltb _ _ (rw kind.0 at c.if-wire-ge16.true)) (record { value = refl; dst_after = refl })
 
 pub returns-then-wire-ge16-2 : goal.returns-then-wire-ge16-2
 unfolding write_address encoded_of
 returns-then-wire-ge16-2 c =
-    rw (lt-ltb _ _ (rw (kinds c.before.before.before.before).0 at c.if-wire-ge16.false), le-ltb _ _ (rw (kinds c.before.before.before.before).1 at c.if-wire-ge16-2.true)) (record { value = refl; dst_after = refl })
+    let kind = kinds (goal.at.returns-then-wire-ge16-2 c).After-on_wire-wire in
+    rw (lt-ltb _ _ (rw kind.0 at c.if-wire-ge16.false), le-ltb _ _ (rw kind.1 at c.if-wire-ge16-2.true))
+    (record { value = refl; dst_after = refl })
 
 -- and the length is the header's
-long : (c : After-encoded_length) → let wire = c.before.before.before.before.before in
-    c.encoded_length.result ≡ address_length wire.before.before.args.self
+long : (c : After-encoded_length) → c.encoded_length.result ≡ address_length c.args.self
 long c =
     c.encoded_length.ensures.0 ∙ ap wire_length c.on_wire-wire.ensures ∙ length_on_wire c.args.self
 
 pub returns-then-dst-encoded_length : goal.returns-then-dst-encoded_length
 unfolding write_address encoded_of
 returns-then-dst-encoded_length c =
-    let other = rw (long c.before) at c.if-dst-encoded_length.true in
-    rw (
-      lt-ltb _ _ (rw (kinds c.before.before.before.before.before.before).0 at c.if-wire-ge16.false),
-      lt-ltb _ _ (rw (kinds c.before.before.before.before.before.before).1 at c.if-wire-ge16-2.false),
-      ne_eqb _ _ other,
-    )
+    let way = goal.at.returns-then-dst-encoded_length c in
+    let kind = kinds way.After-on_wire-wire in
+    let other = rw (long way.After-encoded_length) at c.if-dst-encoded_length.true in
+    rw (lt-ltb _ _ (rw kind.0 at c.if-wire-ge16.false), lt-ltb _ _ (rw kind.1 at c.if-wire-ge16-2.false), ne_eqb _ _ other)
     (record { value = refl; dst_after = refl })
-
--- the arrays beside the hosts
-both-sixteen : (c : Start) → Sixteen c.args.self
-both-sixteen c = record { destination_sixteen = search rules; source_sixteen = search rules }
 
 pub returns : goal.returns
 returns c =
     let a = c.args.self in
-    let exact = c.if-dst-encoded_length.false ∙ long c.before.before.before.before.before in
-    let accepted = address_written a _ (rw (kinds c.before.before.before.before.before.before.before.before.before.before).0 at c.if-wire-ge16.false) (rw (kinds c.before.before.before.before.before.before.before.before.before.before).1 at c.if-wire-ge16-2.false) exact in
+    let way = goal.at.returns c in
+    let kind = kinds way.After-on_wire-wire in
+    let sixteen : Sixteen a = record { destination_sixteen = search rules; source_sixteen = search rules } in
+    let exact = c.if-dst-encoded_length.false ∙ long way.After-encoded_length in
+    let accepted = address_written a _ (rw kind.0 at c.if-wire-ge16.false) (rw kind.1 at c.if-wire-ge16-2.false) exact in
     let bytes = rw (c.on_wire-wire.ensures, bytes_on_wire a) at c.put.ensures.dst_after in
-    written _ _ accepted (let rest = bytes ∙ placed-whole (address_bytes a) c.args.dst.now (length-address_bytes a (both-sixteen c.before.before.before.before.before.before.before.before.before.before.before.before) ∙ sym exact) in record { value = rest.0; dst_after = rest.1 })
+    let whole = bytes ∙ placed-whole (address_bytes a) c.args.dst.now (length-address_bytes a sixteen ∙ sym exact) in
+    let both = written _ _ accepted whole in
+    record { value = both.0; dst_after = both.1 }

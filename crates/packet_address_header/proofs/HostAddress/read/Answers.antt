@@ -18,9 +18,9 @@ returns-then-kind-eq4 c =
 
 pub raw_host_address-raw-requires : goal.raw_host_address-raw-requires
 raw_host_address-raw-requires c =
-    (c.address_length.ensures.1, rw c.address_length.ensures.0 c.requires)
+    (c.address_length-len.ensures.1, rw c.address_length-len.ensures.0 c.requires)
 
 pub returns : goal.returns
 unfolding host_at
 returns c =
-    rw (ne_eqb _ _ c.if-kind-eq4.false, c.of_kind-host.ensures, c.raw_host_address-raw.ensures, c.address_length.ensures.0)
+    rw (ne_eqb _ _ c.if-kind-eq4.false, c.of_kind-host.ensures, c.raw_host_address-raw.ensures, c.address_length-len.ensures.0)

@@ -11,17 +11,18 @@ returns-in-Refused c =
     rw (first_refused _ _ (common_refused _ c.decode-common_read.ensures c.in-Refused.is)) c.refused.ensures
 
 -- the common header that was read
-common : (c : After-is_refused) → let s = c.before.before.before.before in
-    read_common s.before.before.args.bytes.now ≡ ok s.decode.result.header
+common : (c : After-is_refused) → read_common c.args.bytes.now ≡ ok c.decode-common_read.result.header
 common c = common_ok _ c.decode-common_read.ensures c.in_default.is
 
 pub returns-then-is_refused : goal.returns-then-is_refused
 returns-then-is_refused c =
-    rw (then_short _ _ (common c.before.before) (sym c.is_refused.ensures ∙ c.if-is_refused.true)) c.refused-then-is_refused.ensures
+    let read = common (goal.at.returns-then-is_refused c).After-is_refused in
+    rw (then_short _ _ read (sym c.is_refused.ensures ∙ c.if-is_refused.true)) c.refused-then-is_refused.ensures
 
 pub rest-requires : goal.rest-requires
-rest-requires c = common c.before
+rest-requires c = common (goal.at.rest-requires c).After-is_refused
 
 pub returns : goal.returns
 returns c =
-    rw (then_rest _ _ (common c.before.before) (sym c.is_refused.ensures ∙ c.if-is_refused.false)) c.rest.ensures
+    let read = common (goal.at.returns c).After-is_refused in
+    rw (then_rest _ _ read (sym c.is_refused.ensures ∙ c.if-is_refused.false)) c.rest.ensures
