@@ -24,12 +24,12 @@ headers_length address type n = 12 + address_length address + added_length type 
 
 -- the headers of a new packet: the factor, HdrLen, is the header length / 4, rounded down; both paddings are zero, whatever the hosts have
 unfoldable pub new_headers : AddressHeader → ℕ → ℕ → ℕ → ℕ → ℕ → ScionHeaders
-new_headers address type n nextHeader payload flow =
+new_headers address type n next_header payload flow =
     record {
       version = 0;
       traffic_class = 0;
       flow_id = flow;
-      next_header = nextHeader;
+      next_header = next_header;
       header_length_factor = headers_length address type n / 4;
       payload_length = payload;
       path_type = type;

@@ -40,10 +40,10 @@ host_in c =
 
 -- both ends
 unfoldable pub address_in : ℕ → ScionHost → ℕ → ScionHost → AddressHeader
-address_in destinationIa destination sourceIa source =
+address_in destination_ia destination source_ia source =
     record {
-      destination_ia = record { 0 = destinationIa };
-      source_ia = record { 0 = sourceIa };
+      destination_ia = record { 0 = destination_ia };
+      source_ia = record { 0 = source_ia };
       destination = host_in destination;
       source = host_in source;
     }
