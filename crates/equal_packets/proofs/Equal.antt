@@ -46,13 +46,13 @@ filed_bytes f =
     let p : Packet = record { common = f.common; address = f.address; path = no_path; path_bytes = f.path; payload = f.payload } in
     header_bytes (headers_of p) f.path ++ f.payload
 
-module _ (read : Reader) (captured : (bytes : List ℕ) {p : Packet} → read bytes ≡ ok p → read_capture bytes ≡ ok p) (parts : PartsOfThePacket read) where
+module _ (read : Reader) (captured : (bytes : List ℕ) (p : Packet) → read bytes ≡ ok p → read_capture bytes ≡ ok p) (parts : PartsOfThePacket read) where
   all_filed : (bytes : List ℕ) → ((i : ℕ) → get_or bytes i 0 < 256) → (p : Packet) → read bytes ≡ ok p
       → take (packet_end (packet_answer (read bytes))) bytes ≡ filed_bytes (filed (packet_answer (read bytes)) bytes)
   unfolding filed filed_bytes packet_answer headers_of
   all_filed bytes small p e =
       let lies = parts bytes p e in
-      rw (lies.0, lies.1, e) (all_again bytes p small (split bytes (captured bytes e)))
+      rw (lies.0, lies.1, e) (all_again bytes p small (split bytes (captured bytes p e)))
 
   equal : EqualPackets filed read
   equal x y small-x small-y accepted-x accepted-y alike =
@@ -60,4 +60,4 @@ module _ (read : Reader) (captured : (bytes : List ℕ) {p : Packet} → read by
 
 pub equal_packets : OfBoth (EqualPackets filed)
 equal_packets =
-    (equal read_packet packet_captured parts_of_the_packet.0, equal read_capture (λ bytes e. e) parts_of_the_packet.1)
+    (equal read_packet (λ bytes p e. packet_captured bytes e) parts_of_the_packet.0, equal read_capture (λ bytes p e. e) parts_of_the_packet.1)

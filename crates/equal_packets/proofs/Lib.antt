@@ -1,1 +1,2 @@
 pub mod Equal
+mod After

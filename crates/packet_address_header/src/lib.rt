@@ -1,6 +1,7 @@
 // The address header of a packet, by value: the networks and the hosts of both ends, read from bytes and written as bytes. To be
 // written, a host's kind and bytes are taken out of its enum once.
 #![tactic(auto)]
+
 ghost use Rattle.std.specs.Prelude.{◌≡◌, ◌+◌, ◌/◌, ◌%◌, ◌≤◌, length};
 ghost use Rattle.std.proofs.lemmas.List.Edits.{sets};
 ghost use Rattle.wire_encoding.specs.Answers.{put_answer};

@@ -1,5 +1,6 @@
 // All headers of a packet, put together and written.
 #![tactic(auto)]
+
 ghost use Rattle.std.specs.Prelude.{◌≡◌, ◌+◌, eqb, length};
 ghost use Rattle.wire_encoding.specs.Result.{or_else};
 ghost use Rattle.errors.specs.Errors.{encoded_of};
