@@ -1,6 +1,7 @@
 // Executes the calls on standard input, one to a line, and prints each line, then ` => ` and its answer.
 // An empty line and one that begins with `#` are copied. The comment of a call's function, or of its arm in calls.rt, says its words.
 #![tactic(auto)]
+
 mod calls;
 mod fields;
 mod meta_headers;
@@ -13,9 +14,10 @@ mod travel;
 mod values;
 mod words;
 
-ghost use Rattle.std.specs.Prelude.{◌≤◌, length};
+ghost use Rattle.std.specs.Prelude.{◌≤◌, length, IfOk};
 
-use libc::{STDIN_FILENO, STDOUT_FILENO};
+use std::io;
+use std::io::Read;
 
 // Whether a line is a call: it is not empty, and no comment.
 fn is_call(line: &[u8]) -> bool {
@@ -26,37 +28,34 @@ fn is_call(line: &[u8]) -> bool {
 }
 
 // Prints a line, with its answer where it is a call.
-fn execute(line: &[u8]) {
-    io::write_all(STDOUT_FILENO, line);
+fn execute(out: &impl Print, line: &[u8]) -> io::Result<()> {
+    out.write_all(line)?;
     if is_call(line) {
-        io::write_all(STDOUT_FILENO, b" =>");
-        calls::answer(line);
+        print!(out; " =>")?;
+        calls::answer(out, line)?;
     }
-    io::write_all(STDOUT_FILENO, b"\n");
+    print!(out; "\n")
 }
 
 // Executes each line of a text.
-fn execute_all(text: &[u8]) {
+fn execute_all(out: &impl Print, text: &[u8]) -> io::Result<()> {
     let mut start: usize = 0;
     while start < text.len() {
-        let end = bytes::scan::find(text, start, text.len(), b'\n');
-        execute(&text[start..end]);
+        let end = words::find(text, start, b'\n');
+        execute(out, &text[start..end])?;
         start = end + 1;
     }
+    Ok(())
 }
 
 // Where the last line of a text ends, its newline included; the text's end where it has no newline.
 fn last_line_end(text: &[u8]) -> usize
     ensures { result ≤ length text.now }
 {
-    let mut end = text.len();
-    while 0 < end {
-        if text[end - 1] == b'\n' {
-            return end;
-        }
-        end -= 1;
+    match text.iter().rposition(|byte| *byte == b'\n') {
+        Some(last) => last + 1,
+        None => text.len(),
     }
-    text.len()
 }
 
 // Moves what lies from `start` to `end` to the front of a text; how many bytes that is.
@@ -64,42 +63,52 @@ fn keep_rest(text: &mut [u8], start: usize, end: usize) -> usize
     requires { (start ≤ end) × (end ≤ length text.old) }
     ensures { result ≤ end }
 {
-    let rest = end - start;
-    let mut i: usize = 0;
-    while i < rest {
-        text[i] = text[start + i];
-        i += 1;
+    text.copy_within(start..end, 0);
+    end - start
+}
+
+// Reads until the input ends or a buffer is full; how many bytes it then holds.
+fn read_full(from: &mut impl Read, buffer: &mut [u8]) -> io::Result<usize>
+    ensures { IfOk result (λ n. n ≤ length buffer.old) }
+{
+    let mut filled: usize = 0;
+    while filled < buffer.len() {
+        let got = from.read(&mut buffer[filled..])?;
+        if got == 0 {
+            break;
+        }
+        filled += got;
     }
-    rest
+    Ok(filled)
 }
 
 // Reads on after the `held` bytes of a line that has begun; how many bytes there are then.
-fn read_on(input: &mut [u8], held: usize) -> usize
+fn read_on(from: &mut impl Read, input: &mut [u8], held: usize) -> io::Result<usize>
     requires { held ≤ length input.old }
-    ensures { result ≤ length input.old }
+    ensures { IfOk result (λ n. n ≤ length input.old) }
 {
-    let got = io::read_full(STDIN_FILENO, &mut input[held..]);
-    held + got
+    let got = read_full(from, &mut input[held..])?;
+    Ok(held + got)
 }
 
 // Executes the whole lines of what was read, and keeps the beginning of a line after them; how many bytes that is.
-fn execute_lines(input: &mut [u8], filled: usize) -> usize
+fn execute_lines(out: &impl Print, input: &mut [u8], filled: usize) -> io::Result<usize>
     requires { filled ≤ length input.old }
-    ensures { result ≤ filled }
+    ensures { IfOk result (λ n. n ≤ filled) }
 {
     let end = last_line_end(&input[..filled]);
-    execute_all(&input[..end]);
-    keep_rest(input, end, filled)
+    execute_all(out, &input[..end])?;
+    Ok(keep_rest(input, end, filled))
 }
 
 // Executes the lines on standard input, of which it reads at most 32 blocks.
-fn main() {
-    let mut input = io::large_buffer();
+fn main(rt: HostRuntime) -> io::Result<()> {
+    let mut stdin = rt.stdin();
+    let mut input = [0u8; 65536];
     let mut held: usize = 0;
-    let mut blocks: usize = 0;
-    while blocks < 32 {
-        let filled = read_on(&mut input, held);
-        held = execute_lines(&mut input, filled);
-        blocks += 1;
+    for _ in 0..32 {
+        let filled = read_on(&mut stdin, &mut input, held)?;
+        held = execute_lines(&rt, &mut input, filled)?;
     }
+    Ok(())
 }

@@ -1,21 +1,22 @@
 // Calls on the meta header of a path.
 use crate::{packets, print, words};
 use path_meta_header::{HopFieldOf, Offset, PathMetaHeader, Word};
+use std::io;
 
 // The three lengths.
-fn lengths(meta_header: PathMetaHeader) {
+fn lengths(out: &impl Print, meta_header: PathMetaHeader) -> io::Result<()> {
     let lengths = meta_header.segment_lengths;
-    print::byte(lengths[0]);
-    print::byte(lengths[1]);
-    print::byte(lengths[2]);
+    print::byte(out, lengths[0])?;
+    print::byte(out, lengths[1])?;
+    print::byte(out, lengths[2])
 }
 
 // The pointers, the reserved bits and the three lengths.
-pub fn record(meta_header: PathMetaHeader) {
-    print::byte(meta_header.current_info_field);
-    print::byte(meta_header.current_hop_field);
-    print::byte(meta_header.reserved);
-    lengths(meta_header);
+pub fn record(out: &impl Print, meta_header: PathMetaHeader) -> io::Result<()> {
+    print::byte(out, meta_header.current_info_field)?;
+    print::byte(out, meta_header.current_hop_field)?;
+    print::byte(out, meta_header.reserved)?;
+    lengths(out, meta_header)
 }
 
 // The header of the six bytes in words 1 to 6.
@@ -45,76 +46,77 @@ fn lengths_at(line: &[u8]) -> PathMetaHeader {
 }
 
 // `meta B`: the header that begins the bytes.
-pub fn meta(bytes: &[u8]) {
+pub fn meta(out: &impl Print, bytes: &[u8]) -> io::Result<()> {
     let read = PathMetaHeader::decode(bytes);
     let answer = read.answer;
-    print::decoded(answer);
-    record(read.meta_header);
+    print::decoded(out, answer)?;
+    record(out, read.meta_header)
 }
 
 // The number of `meta`'s answer for a first byte and the three after it.
-fn first(first: u8, bytes: &[u8]) {
+fn first(out: &impl Print, first: u8, bytes: &[u8]) -> io::Result<()> {
     if bytes.len() < 4 {
-        return;
+        return Ok(());
     }
     let header = [first, bytes[1], bytes[2], bytes[3]];
     let answer = PathMetaHeader::decode(&header).answer;
-    print::decoded_number(answer);
+    print::decoded_number(out, answer)
 }
 
 // `firsts B`: the number of `meta`'s answer for every byte in the place of B's first of 4, from 0 on.
-pub fn firsts(bytes: &[u8]) {
+pub fn firsts(out: &impl Print, bytes: &[u8]) -> io::Result<()> {
     for byte in 0usize..256 {
-        first(byte as u8, bytes);
+        first(out, byte as u8, bytes)?;
     }
+    Ok(())
 }
 
 // A header as one number after 0, or 10.
-fn word(word: Word) {
+fn word(out: &impl Print, word: Word) -> io::Result<()> {
     match word {
-        Word::Value(number) => print::two(0, number as u64),
-        Word::TooWide => print::two(10, 0),
+        Word::Value(number) => print::two(out, 0, number as u64),
+        Word::TooWide => print::two(out, 10, 0),
     }
 }
 
 // `counts C H R a b c`: what a header of these fields counts, its word and its reversed lengths.
-pub fn counts(line: &[u8]) {
+pub fn counts(out: &impl Print, line: &[u8]) -> io::Result<()> {
     let meta_header = record_at(line);
-    print::number(meta_header.info_fields_count() as u64);
-    print::number(meta_header.hop_fields_count() as u64);
-    print::number(meta_header.interfaces_count() as u64);
-    print::number(meta_header.encoded_path_length() as u64);
-    print::number(meta_header.computed_info_field_index() as u64);
-    word(meta_header.as_u32());
-    lengths(meta_header.to_reversed());
+    print::number(out, meta_header.info_fields_count() as u64)?;
+    print::number(out, meta_header.hop_fields_count() as u64)?;
+    print::number(out, meta_header.interfaces_count() as u64)?;
+    print::number(out, meta_header.encoded_path_length() as u64)?;
+    print::number(out, meta_header.computed_info_field_index() as u64)?;
+    word(out, meta_header.as_u32())?;
+    lengths(out, meta_header.to_reversed())
 }
 
 // `encode C H R a b c B`: a header written to a destination that holds B.
-pub fn encode(line: &[u8], dst: &mut [u8]) {
-    packets::encoded(record_at(line).encode_to(dst));
+pub fn encode(out: &impl Print, line: &[u8], dst: &mut [u8]) -> io::Result<()> {
+    packets::encoded(out, record_at(line).encode_to(dst))
 }
 
 // `ifhop a b c i`: the hop field of interface i.
-pub fn ifhop(line: &[u8]) {
+pub fn ifhop(out: &impl Print, line: &[u8]) -> io::Result<()> {
     let meta_header = lengths_at(line);
     match meta_header.hop_field_index_for_interface(words::index_at(line, 4)) {
-        HopFieldOf::Index(index) => print::two(0, index as u64),
-        HopFieldOf::NoSuchInterface => print::two(8, 0),
+        HopFieldOf::Index(index) => print::two(out, 0, index as u64),
+        HopFieldOf::NoSuchInterface => print::two(out, 8, 0),
     }
 }
 
 // Where a field starts after 0, or 8.
-fn start(offset: Offset) {
+fn start(out: &impl Print, offset: Offset) -> io::Result<()> {
     match offset {
-        Offset::At(at) => print::two(0, at as u64),
-        Offset::NoSuchField => print::two(8, 0),
+        Offset::At(at) => print::two(out, 0, at as u64),
+        Offset::NoSuchField => print::two(out, 8, 0),
     }
 }
 
 // `offset a b c i`: where info field i starts, and hop field i.
-pub fn offset(line: &[u8]) {
+pub fn offset(out: &impl Print, line: &[u8]) -> io::Result<()> {
     let meta_header = lengths_at(line);
     let index = words::index_at(line, 4);
-    start(meta_header.info_field_offset(index));
-    start(meta_header.hop_field_offset(index));
+    start(out, meta_header.info_field_offset(index))?;
+    start(out, meta_header.hop_field_offset(index))
 }

@@ -12,27 +12,28 @@ use packet::raw::ScionPacketRaw;
 use packet_address_header::{AddressHeader, EndhostAddr, HostAddress, MaybeEncoded};
 use packet_common_header::CommonHeader;
 use packet_headers::ScionHeaders;
+use std::io;
 
 // Document 01's number of an answer to writing.
-pub fn encoded(encoded: Encoded) {
+pub fn encoded(out: &impl Print, encoded: Encoded) -> io::Result<()> {
     match encoded {
-        Encoded::Done => print::number(0),
-        Encoded::Refused(error) => print::byte(error.number()),
+        Encoded::Done => print::number(out, 0),
+        Encoded::Refused(error) => print::byte(out, error.number()),
     }
 }
 
 // Version, traffic class, flow, next header, factor, payload length, path type, host kinds and reserved bytes.
-fn common_record(header: CommonHeader) {
-    print::byte(header.version);
-    print::byte(header.traffic_class);
-    print::number(header.flow_id as u64);
-    print::byte(header.next_header);
-    print::byte(header.header_length_factor);
-    print::number(header.payload_length as u64);
-    print::byte(header.path_type);
-    print::byte(header.destination_kind);
-    print::byte(header.source_kind);
-    print::number(header.reserved as u64);
+fn common_record(out: &impl Print, header: CommonHeader) -> io::Result<()> {
+    print::byte(out, header.version)?;
+    print::byte(out, header.traffic_class)?;
+    print::number(out, header.flow_id as u64)?;
+    print::byte(out, header.next_header)?;
+    print::byte(out, header.header_length_factor)?;
+    print::number(out, header.payload_length as u64)?;
+    print::byte(out, header.path_type)?;
+    print::byte(out, header.destination_kind)?;
+    print::byte(out, header.source_kind)?;
+    print::number(out, header.reserved as u64)
 }
 
 // The number of a service, 0 for any other host.
@@ -45,35 +46,35 @@ fn service_number(host: HostAddr) -> u16 {
 }
 
 // A host's kind, a service's number, the sixteen bytes and the padding.
-fn host(address: HostAddress) {
+fn host(out: &impl Print, address: HostAddress) -> io::Result<()> {
     let host = address.host;
     let bytes = address.bytes;
-    print::byte(address.kind());
+    print::byte(out, address.kind())?;
     match host {
-        MaybeEncoded::Decoded(named) => print::number(service_number(named) as u64),
-        MaybeEncoded::Encoded(_) => print::number(0),
+        MaybeEncoded::Decoded(named) => print::number(out, service_number(named) as u64)?,
+        MaybeEncoded::Encoded(_) => print::number(out, 0)?,
     }
-    print::bytes(&bytes);
-    print::number(address.padding as u64);
+    print::bytes(out, &bytes)?;
+    print::number(out, address.padding as u64)
 }
 
 // The networks and the hosts, each destination first.
-fn address_record(header: AddressHeader) {
-    print::number(header.destination_ia.to_u64());
-    print::number(header.source_ia.to_u64());
-    host(header.destination);
-    host(header.source);
+fn address_record(out: &impl Print, header: AddressHeader) -> io::Result<()> {
+    print::number(out, header.destination_ia.to_u64())?;
+    print::number(out, header.source_ia.to_u64())?;
+    host(out, header.destination)?;
+    host(out, header.source)
 }
 
 // `common B`: the common header that begins the bytes, and the lengths of all headers, of those after it, and of the payload.
-pub fn common(bytes: &[u8]) {
+pub fn common(out: &impl Print, bytes: &[u8]) -> io::Result<()> {
     let read = CommonHeader::decode(bytes);
     let answer = read.answer;
-    print::decoded(answer);
-    common_record(read.header);
-    print::number(read.header.header_length() as u64);
-    print::number(read.header.remaining_header_length() as u64);
-    print::number(read.header.payload_size() as u64);
+    print::decoded(out, answer)?;
+    common_record(out, read.header)?;
+    print::number(out, read.header.header_length() as u64)?;
+    print::number(out, read.header.remaining_header_length() as u64)?;
+    print::number(out, read.header.payload_size() as u64)
 }
 
 // Two host kinds in one byte, as the common header has them.
@@ -82,59 +83,59 @@ fn host_kinds(destination: u8, source: u8) -> u8 {
 }
 
 // The network of an address, its host's kind, a service's number and the sixteen bytes.
-fn scion_address(address: ScionAddr) {
+fn scion_address(out: &impl Print, address: ScionAddr) -> io::Result<()> {
     let host = address.host;
     let bytes = address.bytes;
-    print::number(address.isd_asn.to_u64());
-    print::byte(address.kind());
-    print::number(service_number(host) as u64);
-    print::bytes(&bytes);
+    print::number(out, address.isd_asn.to_u64())?;
+    print::byte(out, address.kind())?;
+    print::number(out, service_number(host) as u64)?;
+    print::bytes(out, &bytes)
 }
 
 // Whether the host of an end has a name, and its address.
-fn end(end: EndhostAddr) {
-    print::flag(end.known);
-    scion_address(end.address);
+fn end(out: &impl Print, end: EndhostAddr) -> io::Result<()> {
+    print::flag(out, end.known)?;
+    scion_address(out, end.address)
 }
 
 // `address D S B`: the address header that begins the bytes, of hosts of kinds D and S, both below 16; its length; whether each end's
 // host has a name, and then its address.
-pub fn address(line: &[u8]) {
+pub fn address(out: &impl Print, line: &[u8]) -> io::Result<()> {
     let mut room = [0u8; words::MOST_BYTES];
     let length = words::bytes_at(line, 3, &mut room);
     let kinds = host_kinds(words::u8_at(line, 1), words::u8_at(line, 2));
     let read = AddressHeader::decode_with_context(&room[..length], kinds);
     let answer = read.answer;
-    print::decoded(answer);
-    address_record(read.header);
-    print::number(read.length as u64);
-    end(read.header.destination());
-    end(read.header.source());
+    print::decoded(out, answer)?;
+    address_record(out, read.header)?;
+    print::number(out, read.length as u64)?;
+    end(out, read.header.destination())?;
+    end(out, read.header.source())
 }
 
 // A packet or capture that was split: its headers, where its path and its payload lie, and their bytes.
-fn packet_record(packet: ScionPacketRaw, bytes: &[u8]) {
+fn packet_record(out: &impl Print, packet: ScionPacketRaw, bytes: &[u8]) -> io::Result<()> {
     let answer = packet.answer;
-    print::decoded(answer);
-    common_record(packet.common);
-    address_record(packet.address);
-    meta_headers::record(packet.path.meta_header);
-    print::number(packet.path_part.start as u64);
-    print::bytes(packet.path(bytes));
-    print::number(packet.payload_part.start as u64);
-    print::bytes(packet.payload(bytes));
+    print::decoded(out, answer)?;
+    common_record(out, packet.common)?;
+    address_record(out, packet.address)?;
+    meta_headers::record(out, packet.path.meta_header)?;
+    print::number(out, packet.path_part.start as u64)?;
+    print::bytes(out, packet.path(bytes))?;
+    print::number(out, packet.payload_part.start as u64)?;
+    print::bytes(out, packet.payload(bytes))
 }
 
 // `packet B`: the packet that begins the bytes.
-pub fn packet(bytes: &[u8]) {
-    packet_record(ScionPacketRaw::decode(bytes), bytes);
+pub fn packet(out: &impl Print, bytes: &[u8]) -> io::Result<()> {
+    packet_record(out, ScionPacketRaw::decode(bytes), bytes)
 }
 
 // `capture B`: the capture that begins the bytes, and whether it is short.
-pub fn capture(bytes: &[u8]) {
+pub fn capture(out: &impl Print, bytes: &[u8]) -> io::Result<()> {
     let read = ScionPacketRaw::decode_capture(bytes);
-    packet_record(read.packet, bytes);
-    print::flag(read.short);
+    packet_record(out, read.packet, bytes)?;
+    print::flag(out, read.short)
 }
 
 // A host of a kind: IPv4, IPv6, a service, or a kind without a name.
@@ -196,30 +197,30 @@ fn scion_address_at(line: &[u8], isd_asn: u64, k: usize) -> ScionAddr
 }
 
 // `endhost n H m K`: the address of host H in network n; the same host in network m; and host K there.
-pub fn endhost(line: &[u8]) {
+pub fn endhost(out: &impl Print, line: &[u8]) -> io::Result<()> {
     let made = scion_address_at(line, words::u64_at(line, 1), 2);
-    scion_address(made);
+    scion_address(out, made)?;
     let moved = made.set_isd_asn(IsdAsn(words::u64_at(line, 5)));
-    scion_address(moved);
+    scion_address(out, moved)?;
     let other = scion_address_at(line, 0, 6);
     let host = other.host;
     let bytes = other.bytes;
-    scion_address(moved.set_host(host, bytes));
+    scion_address(out, moved.set_host(host, bytes))
 }
 
 // `newaddr`, two networks, the three words of each of two hosts that have names, and D: the length of the header made of the two
 // addresses, and the header written to D.
-pub fn new_address(line: &[u8], dst: &mut [u8]) {
+pub fn new_address(out: &impl Print, line: &[u8], dst: &mut [u8]) -> io::Result<()> {
     let destination = scion_address_at(line, words::u64_at(line, 1), 3);
     let source = scion_address_at(line, words::u64_at(line, 2), 6);
     let header = AddressHeader::new(destination, source);
-    print::number(header.encoded_length() as u64);
-    encoded(header.encode_to(dst));
+    print::number(out, header.encoded_length() as u64)?;
+    encoded(out, header.encode_to(dst))
 }
 
 // `write version class flow next factor payload type reserved` and the ten words of an address header, then `P D`: the headers and
 // the path P written to a destination that holds D, after the length that they ask for.
-pub fn write(line: &[u8], path: &[u8], dst: &mut [u8]) {
+pub fn write(out: &impl Print, line: &[u8], path: &[u8], dst: &mut [u8]) -> io::Result<()> {
     let address = address_at(line, 9);
     let headers = ScionHeaders {
         version: words::u8_at(line, 1),
@@ -232,13 +233,13 @@ pub fn write(line: &[u8], path: &[u8], dst: &mut [u8]) {
         reserved: words::u16_at(line, 8),
         address,
     };
-    print::number(headers.encoded_length(path.len()) as u64);
-    encoded(headers.encode_to(path, dst));
+    print::number(out, headers.encoded_length(path.len()) as u64)?;
+    encoded(out, headers.encode_to(path, dst))
 }
 
 // `new next payload flow type` and the ten words of an address header, then `P D`: the factor of headers made for the path P, and the
 // headers and the path written to a destination that holds D.
-pub fn new(line: &[u8], path: &[u8], dst: &mut [u8]) {
+pub fn new(out: &impl Print, line: &[u8], path: &[u8], dst: &mut [u8]) -> io::Result<()> {
     let headers = ScionHeaders::new(
         address_at(line, 5),
         words::u8_at(line, 4),
@@ -247,12 +248,12 @@ pub fn new(line: &[u8], path: &[u8], dst: &mut [u8]) {
         words::index_at(line, 2),
         words::u32_at(line, 3),
     );
-    print::number(headers.header_length_factor as u64);
-    encoded(headers.encode_to(path, dst));
+    print::number(out, headers.header_length_factor as u64)?;
+    encoded(out, headers.encode_to(path, dst))
 }
 
 // `putcommon version class flow next factor payload type destination source reserved D`: a common header written alone.
-pub fn put_common(line: &[u8], dst: &mut [u8]) {
+pub fn put_common(out: &impl Print, line: &[u8], dst: &mut [u8]) -> io::Result<()> {
     let header = CommonHeader {
         version: words::u8_at(line, 1),
         traffic_class: words::u8_at(line, 2),
@@ -265,5 +266,5 @@ pub fn put_common(line: &[u8], dst: &mut [u8]) {
         source_kind: words::u8_at(line, 9),
         reserved: words::u16_at(line, 10),
     };
-    encoded(header.encode_to(dst));
+    encoded(out, header.encode_to(dst))
 }

@@ -1,38 +1,33 @@
 // Answers on standard output: each number or byte string after a space.
 use errors::packet_error::Decoded;
 use errors::path_error::Answer;
-use libc::STDOUT_FILENO;
 use path_fields::Interface;
+use std::io;
 
 // That a line is no call.
-pub fn unknown() {
-    io::write_all(STDOUT_FILENO, b" ?");
+pub fn unknown(out: &impl Print) -> io::Result<()> {
+    print!(out; " ?")
 }
 
 // A number in decimal.
-pub fn number(number: u64) {
-    io::write_all(STDOUT_FILENO, b" ");
-    io::print_decimal(STDOUT_FILENO, number);
+pub fn number(out: &impl Print, number: u64) -> io::Result<()> {
+    print!(out; " {number}")
 }
 
 // Two numbers.
-pub fn two(first: u64, second: u64) {
-    number(first);
-    number(second);
+pub fn two(out: &impl Print, first: u64, second: u64) -> io::Result<()> {
+    number(out, first)?;
+    number(out, second)
 }
 
 // A byte as a number.
-pub fn byte(byte: u8) {
-    number(byte as u64);
+pub fn byte(out: &impl Print, byte: u8) -> io::Result<()> {
+    number(out, byte as u64)
 }
 
 // A flag as 1 or 0.
-pub fn flag(on: bool) {
-    if on {
-        number(1);
-    } else {
-        number(0);
-    }
+pub fn flag(out: &impl Print, on: bool) -> io::Result<()> {
+    if on { number(out, 1) } else { number(out, 0) }
 }
 
 // How far a number lies from 0.
@@ -44,75 +39,74 @@ fn distance(number: i64) -> u64 {
 }
 
 // A number that may lie below 0.
-pub fn signed(number: i64) {
+pub fn signed(out: &impl Print, number: i64) -> io::Result<()> {
     if number < 0 {
-        io::write_all(STDOUT_FILENO, b" -");
+        print!(out; " -")?;
     } else {
-        io::write_all(STDOUT_FILENO, b" ");
+        print!(out; " ")?;
     }
-    io::print_decimal(STDOUT_FILENO, distance(number));
+    print!(out; "{}", distance(number))
 }
 
 // The two digits of each byte.
-fn pairs(bytes: &[u8]) {
-    let mut i: usize = 0;
-    while i < bytes.len() {
-        io::print_hex(STDOUT_FILENO, bytes[i] as u64, 2);
-        i += 1;
+fn pairs(out: &impl Print, bytes: &[u8]) -> io::Result<()> {
+    for byte in bytes {
+        print!(out; "{:02x}", *byte)?;
     }
+    Ok(())
 }
 
 // A byte string; `-` where it is empty.
-pub fn bytes(bytes: &[u8]) {
-    io::write_all(STDOUT_FILENO, b" ");
+pub fn bytes(out: &impl Print, bytes: &[u8]) -> io::Result<()> {
+    print!(out; " ")?;
     if bytes.len() == 0 {
-        io::write_all(STDOUT_FILENO, b"-");
+        print!(out; "-")?;
     }
-    pairs(bytes);
+    pairs(out, bytes)
 }
 
 // Document 01's number and value of an answer to a call on a path.
-pub fn answer(answer: Answer) {
+pub fn answer(out: &impl Print, answer: Answer) -> io::Result<()> {
     match answer {
-        Answer::Accepted => two(0, 0),
+        Answer::Accepted => two(out, 0, 0),
         Answer::Refused(error) => {
-            byte(error.number());
-            byte(error.value());
+            byte(out, error.number())?;
+            byte(out, error.value())
         }
     }
 }
 
 // Document 01's number alone.
-pub fn answer_number(answer: Answer) {
+pub fn answer_number(out: &impl Print, answer: Answer) -> io::Result<()> {
     match answer {
-        Answer::Accepted => number(0),
-        Answer::Refused(error) => byte(error.number()),
+        Answer::Accepted => number(out, 0),
+        Answer::Refused(error) => byte(out, error.number()),
     }
 }
 
 // Document 01's number and value of a reading.
-pub fn decoded(decoded: Decoded) {
+pub fn decoded(out: &impl Print, decoded: Decoded) -> io::Result<()> {
     match decoded {
-        Decoded::Accepted => two(0, 0),
+        Decoded::Accepted => two(out, 0, 0),
         Decoded::Refused(error) => {
-            byte(error.number());
-            byte(error.value());
+            byte(out, error.number())?;
+            byte(out, error.value())
         }
     }
 }
 
 // Document 01's number alone of a reading.
-pub fn decoded_number(decoded: Decoded) {
+pub fn decoded_number(out: &impl Print, decoded: Decoded) -> io::Result<()> {
     match decoded {
-        Decoded::Accepted => number(0),
-        Decoded::Refused(error) => byte(error.number()),
+        Decoded::Accepted => number(out, 0),
+        Decoded::Refused(error) => byte(out, error.number()),
     }
 }
 
 // The number of an interface, 0 for none.
-pub fn interface(interface: Interface) {
+pub fn interface(out: &impl Print, interface: Interface) -> io::Result<()> {
     match interface {
-        Interface::None => number(0),
-        Interface::Id(id) => number(id as u64),
+        Interface::None => number(out, 0),
+        Interface::Id(id) => number(out, id as u64),
     }
 }

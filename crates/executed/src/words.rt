@@ -1,10 +1,6 @@
 // The words of a line, which single spaces part: numbers in decimal, and byte strings.
 // A byte string is `-` where it is empty, else pairs of hexadecimal digits; `+N` after them adds N zero bytes.
 ghost use Rattle.std.specs.Prelude.{◌≤◌, length};
-ghost use Rattle.io.specs.Counts.{IsPrefixLen};
-
-use bytes::scan::find;
-use check::same;
 
 // The most bytes of a byte string.
 pub const MOST_BYTES: usize = 2400;
@@ -14,6 +10,18 @@ pub const MOST_BYTES: usize = 2400;
 enum Parsed {
     Value(u64),
     Malformed,
+}
+
+// Where a byte first stands in a text from `start` on; the text's end where it doesn't.
+pub fn find(text: &[u8], start: usize, byte: u8) -> usize
+    requires { start ≤ length text.now }
+    ensures low { start ≤ result }
+    ensures high { result ≤ length text.now }
+{
+    match text[start..].iter().position(|other| *other == byte) {
+        Some(at) => start + at,
+        None => text.len(),
+    }
 }
 
 // The lesser of two numbers.
@@ -28,23 +36,21 @@ fn part_start(text: &[u8], k: usize, separator: u8) -> usize
     ensures { result ≤ length text.now }
 {
     let mut left = k;
-    let mut i: usize = 0;
-    while i < text.len() {
+    for (i, byte) in text.iter().enumerate() {
         if left == 0 {
             return i;
         }
-        if text[i] == separator {
+        if *byte == separator {
             left -= 1;
         }
-        i += 1;
     }
-    i
+    text.len()
 }
 
 // Part `k` of a text, counted from 0; empty where there is no such part.
 fn part(text: &[u8], k: usize, separator: u8) -> &[u8] {
     let start = part_start(text, k, separator);
-    let end = find(text, start, text.len(), separator);
+    let end = find(text, start, separator);
     &text[start..end]
 }
 
@@ -72,14 +78,12 @@ fn pair(high: u8, low: u8) -> u8 {
 fn digits(word: &[u8]) -> usize
     ensures { result ≤ length word.now }
 {
-    let mut i: usize = 0;
-    while i < word.len() {
-        if digit(word[i]) == 16 {
+    for (i, glyph) in word.iter().enumerate() {
+        if digit(*glyph) == 16 {
             return i;
         }
-        i += 1;
     }
-    i
+    word.len()
 }
 
 // A number with one more decimal digit, where it still fits 64 bits.
@@ -102,10 +106,8 @@ fn with_digit(number: Parsed, glyph: u8) -> Parsed {
 // The number that a word spells.
 fn decimal(word: &[u8]) -> Parsed {
     let mut number = Parsed::Value(0);
-    let mut i: usize = 0;
-    while i < word.len() {
-        number = with_digit(number, word[i]);
-        i += 1;
+    for glyph in word {
+        number = with_digit(number, *glyph);
     }
     number
 }
@@ -163,13 +165,11 @@ fn is_order(word: &[u8]) -> bool {
     if word.len() == 0 {
         return false;
     }
-    let mut i: usize = 0;
-    while i < word.len() {
-        match word[i] {
+    for letter in word {
+        match *letter {
             b'f' | b'b' => {}
             _ => return false,
         }
-        i += 1;
     }
     true
 }
@@ -181,7 +181,7 @@ fn is_of_kind(word: &[u8], kind: u8) -> bool {
         b's' => is_bytes(word),
         b'o' => is_order(word),
         b'0'..=b'9' => is_byte(word, kind),
-        b't' => same(word, b"20"),
+        b't' => word == b"20".as_slice(),
         b'f' => is_number(word, 1),
         b'b' => is_number(word, u8::MAX as u64),
         b'h' => is_number(word, u16::MAX as u64),
@@ -192,15 +192,13 @@ fn is_of_kind(word: &[u8], kind: u8) -> bool {
 
 // Whether the words after the first are of these kinds.
 fn are_of_kinds(line: &[u8], kinds: &[u8]) -> bool {
-    let mut k: usize = 0;
-    while k < kinds.len() {
-        if !is_of_kind(word(line, k + 1), kinds[k]) {
+    for (k, kind) in kinds.iter().enumerate() {
+        if !is_of_kind(word(line, k + 1), *kind) {
             return false;
         }
-        k += 1;
     }
-    let last = part_start(line, k, b' ');
-    find(line, last, line.len(), b' ') == line.len()
+    let last = part_start(line, kinds.len(), b' ');
+    find(line, last, b' ') == line.len()
 }
 
 // Which call of a table a line is, counted from 1; 0 where it is none. The table has each call's name and the kinds of its words.
@@ -209,7 +207,7 @@ pub fn call_of(line: &[u8], table: &[u8]) -> usize {
     let mut number: usize = 1;
     let mut k: usize = 0;
     while 1 < table.len() - k {
-        if same(name, word(table, k)) {
+        if name == word(table, k) {
             if are_of_kinds(line, word(table, k + 1)) {
                 return number;
             }
@@ -253,16 +251,14 @@ pub fn flag_at(line: &[u8], k: usize) -> bool {
 // Puts the bytes that pairs of digits spell at the start of `room`.
 fn put_pairs(pairs: &[u8], room: &mut [u8]) {
     let count = lesser(pairs.len() / 2, room.len());
-    let mut i: usize = 0;
-    while i < count {
+    for i in 0..count {
         room[i] = pair(pairs[2 * i], pairs[2 * i + 1]);
-        i += 1;
     }
 }
 
 // Puts the byte string of word `k` at the start of `room`, and answers how many bytes it has.
 pub fn bytes_at(line: &[u8], k: usize, room: &mut [u8]) -> usize
-    ensures { IsPrefixLen result room.new }
+    ensures { result ≤ length room.new }
 {
     let spelt = word(line, k);
     let pairs = part(spelt, 0, b'+');

@@ -4,108 +4,110 @@ use address::host::HostAddr;
 use address::ia::IsdAsn;
 use packet_address_header::{AddressHeader, HostAddress, MaybeEncoded};
 use packet_common_header::CommonHeader;
+use std::io;
 
 // What a path type means.
-fn path_type(path_type: u8) {
-    text::name(b"  path type");
-    text::number(path_type as u64);
+fn path_type(out: &impl Print, path_type: u8) -> io::Result<()> {
+    text::name(out, b"  path type")?;
+    text::number(out, path_type as u64)?;
     if path_type == 0 {
-        text::text(b" empty");
+        text::text(out, b" empty")?;
     } else {
         if path_type == 1 {
-            text::text(b" standard");
+            text::text(out, b" standard")?;
         } else {
-            text::text(b" opaque");
+            text::text(out, b" opaque")?;
         }
     }
-    text::end();
+    text::end(out)
 }
 
-pub fn common(header: CommonHeader) {
-    text::text(b"common header\n");
-    text::number_line(b"  version", header.version as u64);
-    text::number_line(b"  traffic class", header.traffic_class as u64);
-    text::number_line(b"  flow", header.flow_id as u64);
-    text::number_line(b"  next header", header.next_header as u64);
+pub fn common(out: &impl Print, header: CommonHeader) -> io::Result<()> {
+    text::text(out, b"common header\n")?;
+    text::number_line(out, b"  version", header.version as u64)?;
+    text::number_line(out, b"  traffic class", header.traffic_class as u64)?;
+    text::number_line(out, b"  flow", header.flow_id as u64)?;
+    text::number_line(out, b"  next header", header.next_header as u64)?;
     text::number_line(
+        out,
         b"  header length factor",
         header.header_length_factor as u64,
-    );
-    text::size_line(b"  header length", header.header_length() as u64);
-    text::size_line(b"  payload length", header.payload_length as u64);
-    path_type(header.path_type);
-    text::number_line(b"  destination kind", header.destination_kind as u64);
-    text::number_line(b"  source kind", header.source_kind as u64);
-    text::number_line(b"  reserved", header.reserved as u64);
+    )?;
+    text::size_line(out, b"  header length", header.header_length() as u64)?;
+    text::size_line(out, b"  payload length", header.payload_length as u64)?;
+    path_type(out, header.path_type)?;
+    text::number_line(out, b"  destination kind", header.destination_kind as u64)?;
+    text::number_line(out, b"  source kind", header.source_kind as u64)?;
+    text::number_line(out, b"  reserved", header.reserved as u64)
 }
 
 // A network: its number, and the ISD and the AS that it is made of.
-fn network(title: &[u8], isd_asn: IsdAsn) {
-    text::name(title);
-    text::hex_64(isd_asn.to_u64());
-    text::text(b" isd ");
-    text::number(isd_asn.isd() as u64);
-    text::text(b" as ");
-    text::number(isd_asn.asn());
-    text::end();
+fn network(out: &impl Print, title: &[u8], isd_asn: IsdAsn) -> io::Result<()> {
+    text::name(out, title)?;
+    text::hex_64(out, isd_asn.to_u64())?;
+    text::text(out, b" isd ")?;
+    text::number(out, isd_asn.isd() as u64)?;
+    text::text(out, b" as ")?;
+    text::number(out, isd_asn.asn())?;
+    text::end(out)
 }
 
 // The four numbers of an IPv4 address.
-fn ipv4(bytes: [u8; 16]) {
-    text::text(b"IPv4 ");
-    text::number(bytes[0] as u64);
-    text::text(b".");
-    text::number(bytes[1] as u64);
-    text::text(b".");
-    text::number(bytes[2] as u64);
-    text::text(b".");
-    text::number(bytes[3] as u64);
+fn ipv4(out: &impl Print, bytes: [u8; 16]) -> io::Result<()> {
+    text::text(out, b"IPv4 ")?;
+    text::number(out, bytes[0] as u64)?;
+    text::text(out, b".")?;
+    text::number(out, bytes[1] as u64)?;
+    text::text(out, b".")?;
+    text::number(out, bytes[2] as u64)?;
+    text::text(out, b".")?;
+    text::number(out, bytes[3] as u64)
 }
 
 // A host that has a name; a service has its number and its padding.
-fn named(host: HostAddr, bytes: [u8; 16], padding: u16) {
+fn named(out: &impl Print, host: HostAddr, bytes: [u8; 16], padding: u16) -> io::Result<()> {
     match host {
-        HostAddr::V4 => ipv4(bytes),
+        HostAddr::V4 => ipv4(out, bytes),
         HostAddr::V6 => {
-            text::text(b"IPv6 ");
-            text::hex(&bytes);
+            text::text(out, b"IPv6 ")?;
+            text::hex(out, &bytes)
         }
         HostAddr::Svc(service) => {
-            text::text(b"service ");
-            text::hex_16(service.0);
-            text::text(b" padding ");
-            text::hex_16(padding);
+            text::text(out, b"service ")?;
+            text::hex_16(out, service.0)?;
+            text::text(out, b" padding ")?;
+            text::hex_16(out, padding)
         }
     }
 }
 
 // A host of a kind without a name: the first bytes of the sixteen.
-fn opaque(address: HostAddress) {
+fn opaque(out: &impl Print, address: HostAddress) -> io::Result<()> {
     let bytes = address.bytes;
     let length = address.encoded_length();
-    text::text(b"opaque ");
-    text::hex(&bytes[..length]);
+    text::text(out, b"opaque ")?;
+    text::hex(out, &bytes[..length])
 }
 
-fn host(title: &[u8], address: HostAddress) {
+fn host(out: &impl Print, title: &[u8], address: HostAddress) -> io::Result<()> {
     let host = address.host;
     let bytes = address.bytes;
-    text::name(title);
+    text::name(out, title)?;
     match host {
-        MaybeEncoded::Decoded(decoded) => named(decoded, bytes, address.padding),
-        MaybeEncoded::Encoded(_) => opaque(address),
+        MaybeEncoded::Decoded(decoded) => named(out, decoded, bytes, address.padding)?,
+        MaybeEncoded::Encoded(_) => opaque(out, address)?,
     }
-    text::end();
+    text::end(out)
 }
 
-pub fn address(header: AddressHeader) {
+pub fn address(out: &impl Print, header: AddressHeader) -> io::Result<()> {
     let to = header.destination_ia;
     let from = header.source_ia;
     let destination = header.destination;
     let source = header.source;
-    text::text(b"address header\n");
-    network(b"  destination network", to);
-    network(b"  source network", from);
-    host(b"  destination host", destination);
-    host(b"  source host", source);
+    text::text(out, b"address header\n")?;
+    network(out, b"  destination network", to)?;
+    network(out, b"  source network", from)?;
+    host(out, b"  destination host", destination)?;
+    host(out, b"  source host", source)
 }

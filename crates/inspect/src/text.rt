@@ -1,108 +1,104 @@
 // Text on standard output: a line is a name, padded to a column, and what it says. Numbers are decimal, or hexadecimal after 0x.
-use libc::{STDERR_FILENO, STDOUT_FILENO};
+use std::io;
 
 // The column at which a line's value starts.
 const COLUMN: usize = 24;
 
-pub fn text(text: &[u8]) {
-    io::write_all(STDOUT_FILENO, text);
+pub fn text(out: &impl Print, text: &[u8]) -> io::Result<()> {
+    out.write_all(text)
 }
 
-pub fn number(number: u64) {
-    io::print_decimal(STDOUT_FILENO, number);
+pub fn number(out: &impl Print, number: u64) -> io::Result<()> {
+    print!(out; "{number}")
 }
 
 // The two hexadecimal digits of a byte.
-fn pair(byte: u8) {
-    io::print_hex(STDOUT_FILENO, byte as u64, 2);
+fn pair(out: &impl Print, byte: u8) -> io::Result<()> {
+    print!(out; "{byte:02x}")
 }
 
 // The two hexadecimal digits of each byte.
-pub fn hex(bytes: &[u8]) {
+pub fn hex(out: &impl Print, bytes: &[u8]) -> io::Result<()> {
     if bytes.len() == 0 {
-        text(b"none");
+        text(out, b"none")?;
     }
-    let mut i: usize = 0;
-    while i < bytes.len() {
-        pair(bytes[i]);
-        i += 1;
+    for byte in bytes {
+        pair(out, *byte)?;
     }
+    Ok(())
 }
 
 // A 16-bit number as four digits.
-pub fn hex_16(number: u16) {
-    text(b"0x");
-    io::print_hex(STDOUT_FILENO, number as u64, 4);
+pub fn hex_16(out: &impl Print, number: u16) -> io::Result<()> {
+    print!(out; "0x{number:04x}")
 }
 
 // A 64-bit number as sixteen digits.
-pub fn hex_64(number: u64) {
-    text(b"0x");
-    io::print_hex(STDOUT_FILENO, number, 16);
+pub fn hex_64(out: &impl Print, number: u64) -> io::Result<()> {
+    print!(out; "0x{number:016x}")
 }
 
 // Spaces from a column to the one at which values start.
-fn pad(from: usize) {
-    let mut column = from;
-    while column < COLUMN {
-        text(b" ");
-        column += 1;
+fn pad(out: &impl Print, from: usize) -> io::Result<()> {
+    for _ in from..COLUMN {
+        text(out, b" ")?;
     }
+    Ok(())
 }
 
 // The name that begins a line.
-pub fn name(name: &[u8]) {
-    text(name);
-    pad(name.len());
+pub fn name(out: &impl Print, name: &[u8]) -> io::Result<()> {
+    text(out, name)?;
+    pad(out, name.len())
 }
 
 // The end of a line.
-pub fn end() {
-    text(b"\n");
+pub fn end(out: &impl Print) -> io::Result<()> {
+    text(out, b"\n")
 }
 
 // A line with a number.
-pub fn number_line(title: &[u8], value: u64) {
-    name(title);
-    number(value);
-    end();
+pub fn number_line(out: &impl Print, title: &[u8], value: u64) -> io::Result<()> {
+    name(out, title)?;
+    number(out, value)?;
+    end(out)
 }
 
 // A line with a number of bytes.
-pub fn size_line(title: &[u8], size: u64) {
-    name(title);
-    number(size);
-    text(b" bytes\n");
+pub fn size_line(out: &impl Print, title: &[u8], size: u64) -> io::Result<()> {
+    name(out, title)?;
+    number(out, size)?;
+    text(out, b" bytes\n")
 }
 
 // A line with words.
-pub fn text_line(title: &[u8], words: &[u8]) {
-    name(title);
-    text(words);
-    end();
+pub fn text_line(out: &impl Print, title: &[u8], words: &[u8]) -> io::Result<()> {
+    name(out, title)?;
+    text(out, words)?;
+    end(out)
 }
 
 // A line with yes or no.
-pub fn flag_line(title: &[u8], flag: bool) {
-    name(title);
+pub fn flag_line(out: &impl Print, title: &[u8], flag: bool) -> io::Result<()> {
+    name(out, title)?;
     if flag {
-        text(b"yes\n");
+        text(out, b"yes\n")
     } else {
-        text(b"no\n");
+        text(out, b"no\n")
     }
 }
 
 // A line with bytes.
-pub fn hex_line(title: &[u8], bytes: &[u8]) {
-    name(title);
-    hex(bytes);
-    end();
+pub fn hex_line(out: &impl Print, title: &[u8], bytes: &[u8]) -> io::Result<()> {
+    name(out, title)?;
+    hex(out, bytes)?;
+    end(out)
 }
 
 // A line on standard error: what it is about, and what is wrong with it.
-pub fn complaint(about: &[u8], words: &[u8]) {
-    io::write_all(STDERR_FILENO, about);
-    io::write_all(STDERR_FILENO, b": ");
-    io::write_all(STDERR_FILENO, words);
-    io::write_all(STDERR_FILENO, b"\n");
+pub fn complaint(err: &impl Print, about: &[u8], words: &[u8]) -> io::Result<()> {
+    text(err, about)?;
+    text(err, b": ")?;
+    text(err, words)?;
+    end(err)
 }

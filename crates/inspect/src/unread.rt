@@ -1,36 +1,69 @@
 // Files that give no packet to look at: what is wrong with one stands in a line of its own, and with its name on standard error.
 use crate::text;
+use std::io;
+use std::io::{Cursor, ErrorKind, Write};
 
 // A file that holds something else than one packet.
-fn wrong(name: &[u8], words: &[u8]) {
-    text::complaint(name, words);
-    text::text_line(b"no packet", words);
+fn wrong(out: &impl Print, err: &impl Print, name: &[u8], words: &[u8]) -> io::Result<()> {
+    text::complaint(err, name, words)?;
+    text::text_line(out, b"no packet", words)
+}
+
+// The words that begin an error's text, before the system's number in brackets or the zeros that follow the text.
+fn words(text: &[u8]) -> &[u8] {
+    for (i, byte) in text.iter().enumerate() {
+        if *byte == 0 {
+            return &text[..i];
+        }
+        if text[i..].starts_with(b" (") {
+            return &text[..i];
+        }
+    }
+    text
+}
+
+// A line on standard error: what a call failed on, and the system's words for why.
+fn complain(err: &impl Print, about: &[u8], error: io::Error) -> io::Result<()> {
+    let mut text = Cursor::new([0u8; 256]);
+    let _ = write!(text, "{error}");
+    let text = text.into_inner();
+    text::complaint(err, about, words(&text))
 }
 
 // A file on which a call has just failed; standard error gets the system's words.
-pub fn failed(name: &[u8], words: &[u8]) {
-    os::fail(name);
-    text::text_line(b"no packet", words);
+pub fn failed(
+    out: &impl Print,
+    err: &impl Print,
+    name: &[u8],
+    words: &[u8],
+    error: io::Error,
+) -> io::Result<()> {
+    complain(err, name, error)?;
+    text::text_line(out, b"no packet", words)
 }
 
 // A file of which a read has just failed.
-fn not_read(name: &[u8]) {
-    if os::errno() == libc::EISDIR {
-        return failed(name, b"a folder, not a file");
+pub fn not_read(
+    out: &impl Print,
+    err: &impl Print,
+    name: &[u8],
+    error: io::Error,
+) -> io::Result<()> {
+    if error.kind() == ErrorKind::IsADirectory {
+        return failed(out, err, name, b"a folder, not a file", error);
     }
-    failed(name, b"can't be read");
+    failed(out, err, name, b"can't be read", error)
 }
 
-// A file of which `length` bytes were read and that is not at its end: the next read failed, where `more` is negative, or gave a byte.
-pub fn line(name: &[u8], length: usize, more: isize) {
-    if more < 0 {
-        return not_read(name);
-    }
+// A file of which `length` bytes were read and that is not at its end: the next read gave a byte.
+pub fn line(out: &impl Print, err: &impl Print, name: &[u8], length: usize) -> io::Result<()> {
     if length < 65536 {
-        return wrong(name, b"grew while it was read");
+        return wrong(out, err, name, b"grew while it was read");
     }
     wrong(
+        out,
+        err,
         name,
         b"holds more than 65,536 bytes, which is more than inspect reads",
-    );
+    )
 }
