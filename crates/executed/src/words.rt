@@ -1,6 +1,6 @@
 // The words of a line, which single spaces part: numbers in decimal, and byte strings.
 // A byte string is `-` where it is empty, else pairs of hexadecimal digits; `+N` after them adds N zero bytes.
-ghost use Rattle.std.specs.Prelude.{◌≤◌, length};
+ghost use Rattle.std.specs.Prelude.{◌≡◌, ◌≤◌, length, take};
 
 // The most bytes of a byte string.
 pub const MOST_BYTES: usize = 2400;
@@ -258,7 +258,7 @@ fn put_pairs(pairs: &[u8], room: &mut [u8]) {
 
 // Puts the byte string of word `k` at the start of `room`, and answers how many bytes it has.
 pub fn bytes_at(line: &[u8], k: usize, room: &mut [u8]) -> usize
-    ensures { result ≤ length room.new }
+    ensures { (result ≤ length room.new) × (result ≡ length (take result room.new)) }
 {
     let spelt = word(line, k);
     let pairs = part(spelt, 0, b'+');
