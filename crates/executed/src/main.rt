@@ -14,7 +14,7 @@ mod travel;
 mod values;
 mod words;
 
-ghost use Rattle.std.specs.Prelude.{◌≤◌, length, IfOk};
+ghost use Rattle.std.specs.Prelude.{◌≡◌, ◌≤◌, length, take, IfOk, IfErr};
 
 use std::io;
 use std::io::Read;
@@ -82,19 +82,22 @@ fn read_full(from: &mut impl Read, buffer: &mut [u8]) -> io::Result<usize>
     Ok(filled)
 }
 
-// Reads on after the `held` bytes of a line that has begun; how many bytes there are then.
+// Reads on after the `held` bytes of a line that has begun, which stay; how many bytes there are then.
 fn read_on(from: &mut impl Read, input: &mut [u8], held: usize) -> io::Result<usize>
     requires { held ≤ length input.old }
-    ensures { IfOk result (λ n. n ≤ length input.old) }
+    ensures count { IfOk result (λ n. n ≤ length input.old) }
+    ensures line_begun { take held input.new ≡ take held input.old }
 {
     let got = read_full(from, &mut input[held..])?;
     Ok(held + got)
 }
 
-// Executes the whole lines of what was read, and keeps the beginning of a line after them; how many bytes that is.
+// Executes the whole lines of what was read, and keeps the beginning of a line after them; how many bytes that is. Where an answer
+// can't be written, the input is as it was.
 fn execute_lines(out: &impl Print, input: &mut [u8], filled: usize) -> io::Result<usize>
     requires { filled ≤ length input.old }
-    ensures { IfOk result (λ n. n ≤ filled) }
+    ensures kept { IfOk result (λ n. n ≤ filled) }
+    ensures unwritten { IfErr result (λ _. input.new ≡ input.old) }
 {
     let end = last_line_end(&input[..filled]);
     execute_all(out, &input[..end])?;
