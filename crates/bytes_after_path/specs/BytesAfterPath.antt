@@ -44,8 +44,8 @@ pub record ChangedAlike (p t : List ℕ) : Type 0 where
   pub alert : (bit : ℕ) (on : Bool) (j : ℕ) → alerted bit on 1 (p ++ t) j ≡ mapped (before t) (alerted bit on 1 p j)
   pub one_move : move 1 (p ++ t) ≡ mapped (before t) (move 1 p)
   pub moves : (limit : ℕ) → walk 1 (p ++ t) limit ≡ mapped (way_before t) (walk 1 p limit)
-  pub after-move : moved 1 (p ++ t) ≡ moved 1 p ++ t
-  pub after-walk : (limit : ℕ) → walked 1 (p ++ t) limit ≡ walked 1 p limit ++ t
+  pub after_move : moved 1 (p ++ t) ≡ moved 1 p ++ t
+  pub after_walk : (limit : ℕ) → walked 1 (p ++ t) limit ≡ walked 1 p limit ++ t
   pub alert_record : (bit : ℕ) (on : Bool) (j : ℕ) → path_left 1 (alerted bit on 1 (p ++ t) j) ≡ path_left 1 (alerted bit on 1 p j)
   pub move_record : path_left 1 (move 1 (p ++ t)) ≡ path_left 1 (move 1 p)
   pub walk_record : (limit : ℕ) → walk_answer 1 (walk 1 (p ++ t) limit) ≡ walk_answer 1 (walk 1 p limit)

@@ -21,8 +21,8 @@ meta_in path = meta_of (big_endian 4 path 0)
 -- 01's path order: lengths, info pointer, hop pointer, and no fewer bytes than header and fields take, the header's four among them
 pub record PathOrder (path : List ℕ) : Type 0 where
   pub lengths : lengths_valid (meta_in path) ≡ true
-  pub info-pointer : info_valid (meta_in path) ≡ true
-  pub hop-pointer : hop_valid (meta_in path) ≡ true
+  pub info_pointer : info_valid (meta_in path) ≡ true
+  pub hop_pointer : hop_valid (meta_in path) ≡ true
   pub enough : path_length (meta_in path) ≤ length path
 
 -- a theorem: that is what the reader of paths accepts
@@ -45,9 +45,9 @@ addresses_length bytes = length_of_kinds (common_at bytes).destination_kind (com
 pub record Acceptable (bytes : List ℕ) : Type 0 where
   pub version : version_of bytes ≡ 0
   pub factor : 9 ≤ factor_of bytes
-  pub path-length : ℕ
-  pub path : PathOf (common_at bytes).path_type (part (12 + addresses_length bytes) path-length bytes)
-  pub filled : 12 + addresses_length bytes + path-length ≡ 4 * factor_of bytes
+  pub path_length : ℕ
+  pub path : PathOf (common_at bytes).path_type (part (12 + addresses_length bytes) path_length bytes)
+  pub filled : 12 + addresses_length bytes + path_length ≡ 4 * factor_of bytes
   pub payload : 4 * factor_of bytes + (common_at bytes).payload_length ≤ length bytes
 
 -- a theorem of the reader of packets

@@ -170,6 +170,7 @@ impl MaybeEncoded {
     }
 
     // A host of a kind that is no service: IPv4, IPv6, or one without a name.
+    #[tactic(auto, unfolding(crate::specs::AddressHeader::host_of_kind))]
     fn of_kind(kind: u8) -> MaybeEncoded
         ensures { result ≡ spec.host_of_kind kind }
     {

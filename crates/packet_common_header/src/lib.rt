@@ -47,6 +47,7 @@ impl AddressInfo {
 }
 
 // Whether each number is of its field's width.
+#[tactic(auto, unfolding(crate::specs::CommonHeader::fields_fit))]
 pub fn fields_fit(version: u8, flow_id: u32, destination_kind: u8, source_kind: u8) -> bool
     ensures { result ≡ spec.fields_fit version flow_id destination_kind source_kind }
 {
@@ -118,6 +119,7 @@ impl CommonHeader {
     }
 
     // Reads the common header that begins `bytes`.
+    #[tactic(auto, using(wire_encoding::proofs::BigEndian::or_zero_is), unfolding(crate::specs::CommonHeader::read_common, crate::specs::CommonHeader::common_at, crate::specs::CommonHeader::common_answer))]
     pub fn decode(bytes: &[u8]) -> CommonHeaderRead
         ensures { result ≡ spec.common_answer (spec.read_common bytes.now) }
     {

@@ -27,6 +27,7 @@ pub struct ScionHeaders {
 }
 
 // How many bytes a path of a type adds to the headers: none for the empty path, all of them for any other.
+#[tactic(auto, unfolding(crate::specs::Headers::added_length))]
 fn path_length(path_type: u8, path_len: usize) -> usize
     ensures { result ≡ spec.added_length path_type path_len }
 {
@@ -87,6 +88,7 @@ impl ScionHeaders {
     }
 
     // Writes the headers and the path after them to a destination that they fill, or leaves it as it is.
+    #[tactic(auto, unfolding(crate::specs::Headers::write_headers, crate::specs::Headers::common_of, errors::specs::Errors::encoded_of, packet_common_header::specs::CommonHeader::common_fits, packet_address_header::specs::AddressHeader::on_wire, packet_address_header::specs::AddressHeader::host_on_wire))]
     pub fn encode_to(self, path: &[u8], dst: &mut [u8]) -> Encoded
         ensures value { result ≡ encoded_of (spec.write_headers self path.now (length dst.old)) }
         ensures dst_after { dst.new ≡ or_else (spec.write_headers self path.now (length dst.old)) dst.old }

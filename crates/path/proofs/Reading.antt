@@ -292,3 +292,6 @@ module _ (bytes : List ℕ) (type : ℕ) where
 pub views_inside : ViewsInside
 views_inside type bytes i =
     ((λ p h. (info_view bytes type i p h).inside), (λ p h. (hop_view bytes type i p h).inside), (λ s h. segment_view bytes type i s h))
+
+-- what an answer of `standard` says of the bytes
+pub ruleset answers_read = (answer_ok, answer_refused, record_is, standard_readable)

@@ -13,7 +13,7 @@ use borrow.Author.Tests.{eq-eqb}
 use Rattle.wire_encoding.specs.Result.{ok, or_else}
 use Rattle.wire_encoding.specs.BigEndian.{big_endian, number_at, part}
 use Rattle.wire_encoding.proofs.Bits.{flip_made, flip_above}
-use Rattle.wire_encoding.proofs.Lists.{Bytes, by_lt, length_part, get_d_part, part-part, part_left, get_or_by_part}
+use Rattle.wire_encoding.proofs.Lists.{Bytes, by_lt, length_part, get_or_part, part-part, part_left, get_or_by_part}
 use Rattle.wire_encoding.proofs.BigEndian.{or_zero_is, read_part, part_by_number}
 use Rattle.path_fields.specs.declared.InfoField.{InfoField}
 use Rattle.path_fields.specs.declared.HopField.{HopField}
@@ -26,7 +26,7 @@ pub read_there : (width : ℕ) (bytes : List ℕ) (at : ℕ) {n : ℕ} → n ≡
 read_there width bytes at e h = e ∙ or_zero_is width bytes at h
 
 first_byte : (at n : ℕ) (bytes : List ℕ) → 1 ≤ n → get_or (part at n bytes) 0 0 ≡ get_or bytes at 0
-first_byte at n bytes h = get_d_part at n bytes 0 (omega arith) ∙ ap (λ (i : ℕ). get_or bytes i 0) (add-zero at)
+first_byte at n bytes h = get_or_part at n bytes 0 (omega arith) ∙ ap (λ (i : ℕ). get_or bytes i 0) (add-zero at)
 
 module _ (bytes : List ℕ) (at : ℕ) where
   pub info_at_part : at + 8 ≤ length bytes → info_field_at (part at 8 bytes) 0 ≡ info_field_at bytes at
@@ -34,7 +34,7 @@ module _ (bytes : List ℕ) (at : ℕ) where
   info_at_part h =
       rw (
         first_byte at 8 bytes (omega arith),
-        get_d_part at 8 bytes 1 (omega arith),
+        get_or_part at 8 bytes 1 (omega arith),
         read_part 2 bytes at 8 2 (omega arith),
         read_part 4 bytes at 8 4 (omega arith),
       )
@@ -51,7 +51,7 @@ module _ (bytes : List ℕ) (at : ℕ) where
   hop_at_part h =
       rw (
         first_byte at 12 bytes (omega arith),
-        get_d_part at 12 bytes 1 (omega arith),
+        get_or_part at 12 bytes 1 (omega arith),
         read_part 2 bytes at 12 2 (omega arith),
         read_part 2 bytes at 12 4 (omega arith),
         part-part at 12 6 6 bytes (omega arith) h,
@@ -134,3 +134,6 @@ module _ (f g : InfoField) (hop : HopField) where
   egress_exchanged e =
       ap (λ (t : Bool). interface_of (cond t hop.cons_egress hop.cons_ingress)) e
       ∙ ap interface_of (exchanged (constructed_dir g) hop.cons_egress hop.cons_ingress)
+
+-- a field inside its bytes is read from there
+pub ruleset field_reads = (info_in, hop_in)

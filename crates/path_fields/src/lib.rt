@@ -255,6 +255,7 @@ pub fn expiry(timestamp: u32, exp_time: u8) -> u64
 
 impl Interface {
     // The interface of a number on the wire.
+    #[tactic(auto, unfolding(crate::specs::Fields::interface_of))]
     pub fn new(number: u16) -> Interface
         ensures { result ≡ spec.interface_of number }
     {

@@ -105,6 +105,7 @@ fn hop_field_on(bytes: &[u8], meta_header: PathMetaHeader, index: usize) -> HopF
 }
 
 // Interface `index` at hop field `hop`: its egress where the index is even, else its ingress.
+#[tactic(auto, using(path_fields::proofs::Fields::field_reads), unfolding(crate::specs::Interfaces::interface_at))]
 fn interface_at(bytes: &[u8], meta_header: PathMetaHeader, hop: usize, index: usize) -> Interface
     requires { spec.hop_is_there bytes.now meta_header hop }
     ensures { result ≡ spec.interface_at bytes.now meta_header hop index }

@@ -6,7 +6,7 @@ use mathlib.Core.List.{List}
 use native.Mathlib.Omega.{arith}
 use lib.ListN.{length, get_or}
 use Rattle.wire_encoding.specs.BigEndian.{big_endian, part}
-use Rattle.wire_encoding.proofs.Lists.{length_part, get_d_part}
+use Rattle.wire_encoding.proofs.Lists.{length_part, get_or_part}
 use Rattle.path_meta_header.specs.MetaHeader.{info_fields_count, first_hop_field, segment_length, path_length, info_start, hop_start}
 use Rattle.path_meta_header.specs.declared.PathMetaHeader.{PathMetaHeader}
 use Rattle.path_meta_header.proofs.Segment.{inside}
@@ -36,7 +36,7 @@ module _ (bytes : List ℕ) (m : PathMetaHeader) (k : ℕ) (there : k < info_fie
   byte_in_run j h =
       let start = hop_start m (first_hop_field m k) in
       let e : start + (0 + j * 12 + 1) ≡ hop_start m (first_hop_field m k + j) + 1 = omega arith in
-      get_d_part start (segment_length m k * 12) bytes (0 + j * 12 + 1) (omega arith)
+      get_or_part start (segment_length m k * 12) bytes (0 + j * 12 + 1) (omega arith)
       ∙ ap (λ (i : ℕ). get_or bytes i 0) e
 
   -- the segment's expiry, by the least expiry byte of its run

@@ -10,6 +10,8 @@ use borrow.Author.Tests.{eq-eqb, ltb-true}
 use Rattle.wire_encoding.specs.Result.{ok, refused}
 use Rattle.wire_encoding.proofs.Result.{held, unmet}
 use Rattle.wire_encoding.specs.BigEndian.{bytes_of}
+use Rattle.wire_encoding.proofs.BigEndian.{length_bytes_of}
+use Rattle.wire_encoding.proofs.Writes.{placed-whole}
 use Rattle.path_meta_header.specs.declared.PathMetaHeader.{PathMetaHeader}
 use Rattle.path_meta_header.specs.MetaHeader.{nth_field, meta_of, segment_length}
 use Rattle.path_meta_header.specs.Encoding.{meta_fits, word_of, as_word, write_meta}
@@ -94,3 +96,6 @@ word_wide m e = unmet (meta_fits m) 10 (word_of m) (sym e)
 pub meta_written : (m : PathMetaHeader) (n : ℕ) → meta_fits m ≡ true → n ≡ 4 → write_meta m n ≡ ok (bytes_of 4 (word_of m))
 unfolding write_meta
 meta_written m n f l = rw (f, eq-eqb n 4 l)
+
+-- what `encode_to` cites: what the answer of `as_u32` says of the numbers, what is then written, and a run that fills its destination
+pub ruleset encodes = (word_is, word_wide, meta_written, placed-whole, length_bytes_of)

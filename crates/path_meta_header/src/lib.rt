@@ -371,6 +371,7 @@ impl PathMetaHeader {
     }
 
     // Writes the header to a destination of exactly 4 bytes.
+    #[tactic(auto, using(crate::proofs::Encoding::encodes), unfolding(crate::specs::Encoding::write_meta, errors::specs::Errors::encoded_of))]
     pub fn encode_to(self, dst: &mut [u8]) -> Encoded
         ensures value { result ≡ encoded_of (encoding.write_meta self (length dst.old)) }
         ensures dst_after { dst.new ≡ or_else (encoding.write_meta self (length dst.old)) dst.old }

@@ -55,6 +55,7 @@ fn peering_allowed(bytes: &[u8], meta_header: PathMetaHeader) -> bool
 }
 
 // Reading, 8 for every type but 1, then 13 for too many hop fields and 14 for peering: where moves and walks begin.
+#[tactic(auto, using(path::proofs::Reading::answers_read), unfolding(crate::specs::Rules::movable, path::specs::Dataplane::path_answer))]
 pub fn movable(path: DataplanePath, bytes: &[u8]) -> PathAnswer
     ensures { result
         ≡ path_answer (path_of path.path_type bytes.now) (rules.movable path.path_type bytes.now) }
@@ -154,6 +155,7 @@ impl Position {
     }
 
     // The move from this position, which is the path's own and not its last.
+    #[tactic(auto, unfolding(crate::specs::Moves::move_from, crate::specs::Moves::change_of, crate::specs::Moves::takes_in))]
     fn moved(self, bytes: &[u8], meta_header: PathMetaHeader) -> Moved
         requires can_move { spec.CanMove bytes.now meta_header }
         requires self_value { self ≡ spec.position_of meta_header }

@@ -22,11 +22,11 @@ unfolding into
 sizes = (refl, refl, refl, refl)
 
 -- a run of n bytes in front, and behind it what was there
-abbrev pub in_front_lem : List ℕ → List ℕ → ℕ → Written
-in_front_lem run dst n = record { length = n; left = run ++ drop n dst }
+abbrev pub put_in_front : List ℕ → List ℕ → ℕ → Written
+put_in_front run dst n = record { length = n; left = run ++ drop n dst }
 
 module _ (run dst : List ℕ) {n : ℕ} (size : length run ≡ n) where
-  pub into_enough : n ≤ length dst → into run dst ≡ ok (in_front_lem run dst n)
+  pub into_enough : n ≤ length dst → into run dst ≡ ok (put_in_front run dst n)
   unfolding into
   into_enough room = rw (size, le-leb n (length dst) room)
 
@@ -43,7 +43,7 @@ module _ (run dst : List ℕ) {w : Written} (h : into run dst ≡ ok w) where
   unfolding into
   room = leb-true (length run) (length dst) (held (leb (length run) (length dst)) _ _ h).0
 
-  pub into-left : in_front_lem run dst (length run) ≡ w
+  pub into-left : put_in_front run dst (length run) ≡ w
   unfolding into
   into-left = same_value (held (leb (length run) (length dst)) _ _ h).1
 

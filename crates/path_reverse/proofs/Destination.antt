@@ -28,7 +28,7 @@ use Rattle.path_reverse.specs.Copy.{Written, into, copy, front, contents_after, 
 use Rattle.path_reverse.specs.Reverse.{reversed_path, reversed_bytes, reverse}
 use Rattle.path_reverse.specs.Destination.{Call, Bytes, own_bytes, exactly, NotLonger, without_length, Destinations}
 use Rattle.path_reverse.specs.Destination.{CopyDestinations, ReversalDestinations, LongestPath}
-use Rattle.path_reverse.proofs.Copy.{in_front_lem, into_enough, into_fewer, into-left, front_run, front_is, behind_is, whole_is}
+use Rattle.path_reverse.proofs.Copy.{put_in_front, into_enough, into_fewer, into-left, front_run, front_is, behind_is, whole_is}
 use Rattle.path_reverse.proofs.Reverse.{length-reversed_path}
 use Rattle.path_reverse.proofs.Expiry.{standard, copied_readable, reversed_readable}
 
@@ -50,7 +50,7 @@ record Writes (call : Call) (written : Bytes) : Type 0 where
 
 module _ (call : Call) (written : Bytes) (c : Writes call written) where
   enough : (type : ℕ) (bytes dst : List ℕ) (read : Extent) → read_dataplane type bytes ≡ ok read → read.length ≤ length dst
-      → call type bytes dst ≡ ok (in_front_lem (written type read bytes) dst read.length)
+      → call type bytes dst ≡ ok (put_in_front (written type read bytes) dst read.length)
   enough type bytes dst read h room = c.made type bytes dst ∙ rw h (into_enough (written type read bytes) dst (c.long type bytes read h) room)
 
   fewer : (type : ℕ) (bytes dst : List ℕ) (read : Extent) → read_dataplane type bytes ≡ ok read → length dst < read.length
@@ -116,7 +116,7 @@ module _ (call : Call) (written : Bytes) (c : Writes call written) where
           let all : run ++ drop read.length dst ≡ run =
           ap (λ (l : List ℕ). run ++ l) (drop_of_length-le dst {i = read.length} (omega (arith, size))) ∙ append-nil run in
           alike (enough type bytes dst read h (omega (arith, size))) (rw (h, ne_eqb type 0 some, eq-eqb (length dst) (length run) e))
-          (both_written (in_front_lem run dst read.length) run (ap (path_of type) (front_run run dst size)) all)
+          (both_written (put_in_front run dst read.length) run (ap (path_of type) (front_run run dst size)) all)
 
       alike_fewer : (type ≡ 0 → ⊥) → length dst < read.length → Alike (call type bytes dst) (exactly written type bytes dst)
       unfolding exactly

@@ -13,7 +13,7 @@ use lib.Seq.{get_or-take, length-take-le}
 use borrow.Author.Tests.{eqb-true, eqb-false}
 use Rattle.wire_encoding.specs.Result.{ok, mapped, refusing}
 use Rattle.wire_encoding.proofs.Result.{same_value, stepped, refusing_ok, mapped_ok}
-use Rattle.wire_encoding.proofs.Lists.{get_d_part}
+use Rattle.wire_encoding.proofs.Lists.{get_or_part}
 use Rattle.errors.specs.declared.path_error.PathError.TheVariants.{Decode}
 use Rattle.path_fields.specs.Fields.{with_constructed_dir, hop_field_at, expiry_time}
 use Rattle.path_fields.specs.declared.InfoField.{InfoField}
@@ -88,9 +88,9 @@ module _ (x : List ℕ) (m : PathMetaHeader) (r : Readable x m) where
   unfolding reversed_path
   end_back j l =
       ap (λ (n : ℕ). get_or y (4 + n * 8 + j * 12 + 1) 0) infos
-      ∙ sym (get_d_part (hop_start m j) 12 y 1 (omega arith))
+      ∙ sym (get_or_part (hop_start m j) 12 y 1 (omega arith))
       ∙ ap (λ (p : List ℕ). get_or p 1 0) (reversed_hop_field m x r.whole t j l)
-      ∙ get_d_part (hop_start m (N - 1 - j)) 12 x 1 (omega arith)
+      ∙ get_or_part (hop_start m (N - 1 - j)) 12 x 1 (omega arith)
 
   segment_back : (k : ℕ) → k < I → segment_expiry y t k ≡ segment_expiry x m (I - 1 - k)
   unfolding segment_expiry hop_expiry hop_field_at

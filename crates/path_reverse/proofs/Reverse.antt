@@ -30,7 +30,7 @@ use Rattle.path.specs.Standard.{read_record}
 use Rattle.path.specs.Dataplane.{read_dataplane}
 use Rattle.path.proofs.Reading.{Readable, record_read}
 use Rattle.path_reverse.specs.Copy.{copy}
-use Rattle.path_reverse.proofs.Copy.{in_front_lem, into_enough, into_fewer, front_run}
+use Rattle.path_reverse.proofs.Copy.{put_in_front, into_enough, into_fewer, front_run}
 use Rattle.path_reverse.specs.Reverse.{reversed_records, flipped, same, reversed_under, reversed_path, reversed_bytes, reverse, Reversible}
 
 -- THE PARTS OF A FIELD
@@ -273,7 +273,7 @@ module _ (bytes dst : List ℕ) where
     pub front_reversed : take (path_length m) (reversed_path m bytes ++ drop (path_length m) dst) ≡ reversed_path m bytes
     front_reversed = front_run (reversed_path m bytes) dst long
 
-    pub reverse_enough : path_length m ≤ length dst → reverse 1 bytes dst ≡ ok (in_front_lem (reversed_path m bytes) dst (path_length m))
+    pub reverse_enough : path_length m ≤ length dst → reverse 1 bytes dst ≡ ok (put_in_front (reversed_path m bytes) dst (path_length m))
     unfolding reverse reversed_bytes read_dataplane
     reverse_enough room = rw (record_read bytes m r, into_enough (reversed_path m bytes) dst long room)
 

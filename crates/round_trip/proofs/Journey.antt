@@ -18,7 +18,7 @@ use Rattle.wire_encoding.specs.Result.{mapped, or_else}
 use Rattle.path.specs.Dataplane.{meta_header_of}
 use Rattle.path_reverse.specs.Copy.{front}
 use Rattle.path_reverse.specs.Reverse.{reversed_path, reverse}
-use Rattle.round_trip.specs.RoundTrip.{End, first, other, Packet, State, begin, by_end, Event, sending, single-move, walk, loss}
+use Rattle.round_trip.specs.RoundTrip.{End, first, other, Packet, State, begin, by_end, Event, sending, single_move, walk, loss}
 use Rattle.round_trip.specs.RoundTrip.{doubling, arrival, on_the_way, on_packet, sent, packet_moved, packet_walked, without, hop_count, pointer}
 use Rattle.round_trip.specs.RoundTrip.{at_last, holding, arrived, step, after, met, meets, Begun, Stands, All, reply, reached, Claim}
 use Rattle.round_trip.proofs.Mirror.{Path}
@@ -226,7 +226,7 @@ module _ (b : List ℕ) (g : Begun b) where
   unfolding step
   on_step s v (sending first) = first_sends s v
   on_step s v (sending other) = other_sends s v
-  on_step s v (single-move i) =
+  on_step s v (single_move i) =
       on_packet_lem s i (λ q. on_the_way s (set s.packets i (packet_moved q))) v (λ q t. replaced s v i (packet_moved q) (moved_tracked q t))
   on_step s v (walk i limit) =
       on_packet_lem s i (λ q. on_the_way s (set s.packets i (packet_walked limit q))) v

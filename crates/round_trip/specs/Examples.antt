@@ -4,7 +4,7 @@ use Rattle.std.specs.Prelude.{ℕ, zero, suc, ◌+◌, ◌*◌, ◌≡◌, List,
 use Rattle.std.proofs.Math.Option.{Option, none, some}
 use Rattle.path_fields.specs.declared.Interface.TheVariants.{Id}
 use Rattle.path_moves.specs.Moves.{accumulator_by}
-use Rattle.round_trip.specs.RoundTrip.{first, other, Packet, State, begin, Event, sending, single-move, walk, doubling, arrival, after, Begun}
+use Rattle.round_trip.specs.RoundTrip.{first, other, Packet, State, begin, Event, sending, single_move, walk, doubling, arrival, after, Begun}
 use Rattle.round_trip.specs.RoundTrip.{meets, reply}
 use Rattle.round_trip.specs.Reply.{trip, at_end}
 
@@ -81,7 +81,7 @@ travels =
     ∷ walk 0 9
     ∷ arrival 0 (replicate 91 0)
     ∷ arrival 0 (replicate 92 0)
-    ∷ single-move 0
+    ∷ single_move 0
     ∷ sending other
     ∷ walk 1 1
     ∷ []

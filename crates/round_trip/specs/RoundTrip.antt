@@ -49,7 +49,7 @@ by_end other a b = b
 
 pub data Event : Type 0 where
   sending : End → Event
-  single-move : ℕ → Event
+  single_move : ℕ → Event
   walk : ℕ → ℕ → Event
   loss : ℕ → Event
   doubling : ℕ → Event
@@ -117,7 +117,7 @@ arrived s i destination q =
 unfoldable pub step : State → Event → State
 step s (sending first) = sent s other s.first_holds
 step s (sending other) = sent s first s.other_holds
-step s (single-move i) = on_packet s (get_elem? s.packets i) (λ q. on_the_way s (set s.packets i (packet_moved q)))
+step s (single_move i) = on_packet s (get_elem? s.packets i) (λ q. on_the_way s (set s.packets i (packet_moved q)))
 step s (walk i limit) = on_packet s (get_elem? s.packets i) (λ q. on_the_way s (set s.packets i (packet_walked limit q)))
 step s (loss i) = on_the_way s (without i s.packets)
 step s (doubling i) = on_packet s (get_elem? s.packets i) (λ q. on_the_way s (s.packets ++ (q ∷ [])))

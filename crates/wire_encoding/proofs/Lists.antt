@@ -97,8 +97,8 @@ pub bytes_part : (at n : ℕ) (bytes : List ℕ) → Bytes bytes → Bytes (part
 bytes_part at n bytes b = bytes_take n (drop at bytes) (λ k. rw (get_or-drop at bytes k 0) (b (at + k)))
 
 -- byte i of a part
-pub get_d_part : (at n : ℕ) (bytes : List ℕ) (i : ℕ) → i < n → get_or (part at n bytes) i 0 ≡ get_or bytes (at + i) 0
-get_d_part at n bytes i h = get_or-take n (drop at bytes) i 0 h ∙ get_or-drop at bytes i 0
+pub get_or_part : (at n : ℕ) (bytes : List ℕ) (i : ℕ) → i < n → get_or (part at n bytes) i 0 ≡ get_or bytes (at + i) 0
+get_or_part at n bytes i h = get_or-take n (drop at bytes) i 0 h ∙ get_or-drop at bytes i 0
 
 -- a part of a part
 pub part-part : (p n at m : ℕ) (bytes : List ℕ) → at + m ≤ n → p + n ≤ length bytes → part at m (part p n bytes) ≡ part (p + at) m bytes
@@ -106,10 +106,10 @@ part-part p n at m bytes h k =
     let inner : length (part at m (part p n bytes)) ≡ m = length_part at m (part p n bytes) (omega (arith, length_part p n bytes k)) in
     let outer : length (part (p + at) m bytes) ≡ m = length_part (p + at) m bytes (omega arith) in
     ext_get_or 0 (part at m (part p n bytes)) (part (p + at) m bytes) (inner ∙ sym outer)
-    (λ i below. get_d_part at m (part p n bytes) i (omega arith)
-    ∙ get_d_part p n bytes (at + i) (omega arith)
+    (λ i below. get_or_part at m (part p n bytes) i (omega arith)
+    ∙ get_or_part p n bytes (at + i) (omega arith)
     ∙ ap (λ (x : ℕ). get_or bytes x 0) (sym (add_assoc p at i))
-    ∙ sym (get_d_part (p + at) m bytes i (omega arith)))
+    ∙ sym (get_or_part (p + at) m bytes i (omega arith)))
 
 -- PARTS OF TWO LISTS, ONE AFTER THE OTHER
 
@@ -154,9 +154,9 @@ module _ (x y : List ℕ) where
   get_or_by_part at n e i l h =
       let q : at + (i - at) ≡ i = omega arith in
       rw q at
-      (sym (get_d_part at n x (i - at) (omega arith))
+      (sym (get_or_part at n x (i - at) (omega arith))
       ∙ ap (λ (p : List ℕ). get_or p (i - at) 0) e
-      ∙ get_d_part at n y (i - at) (omega arith))
+      ∙ get_or_part at n y (i - at) (omega arith))
 
   -- and the other way round
   pub part_by_get_or : (at n : ℕ) → at + n ≤ length x → at + n ≤ length y
@@ -165,7 +165,7 @@ module _ (x y : List ℕ) where
       let lx : length (part at n x) ≡ n = length_part at n x hx in
       let ly : length (part at n y) ≡ n = length_part at n y hy in
       ext_get_or 0 (part at n x) (part at n y) (lx ∙ sym ly)
-      (λ i l. get_d_part at n x i (omega arith) ∙ h (at + i) (omega arith) (omega arith) ∙ sym (get_d_part at n y i (omega arith)))
+      (λ i l. get_or_part at n x i (omega arith) ∙ h (at + i) (omega arith) (omega arith) ∙ sym (get_or_part at n y i (omega arith)))
 
 -- LISTS OF BYTES
 

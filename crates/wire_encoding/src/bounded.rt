@@ -51,6 +51,7 @@ impl U2 {
 
     pub const MAX: u8 = 3;
 
+    #[tactic(auto, unfolding(crate::specs::Bounded::bounded))]
     pub fn new(value: u8) -> NewU2
         ensures { answer_u2 result ≡ bounded 2 value }
     {
@@ -72,6 +73,7 @@ impl U4 {
 
     pub const MAX: u8 = 15;
 
+    #[tactic(auto, unfolding(crate::specs::Bounded::bounded))]
     pub fn new(value: u8) -> NewU4
         ensures { answer_u4 result ≡ bounded 4 value }
     {
@@ -93,6 +95,7 @@ impl U6 {
 
     pub const MAX: u8 = 63;
 
+    #[tactic(auto, unfolding(crate::specs::Bounded::bounded))]
     pub fn new(value: u8) -> NewU6
         ensures { answer_u6 result ≡ bounded 6 value }
     {
@@ -114,6 +117,7 @@ impl U20 {
 
     pub const MAX: u32 = 0xF_FFFF;
 
+    #[tactic(auto, unfolding(crate::specs::Bounded::bounded))]
     pub fn new(value: u32) -> NewU20
         ensures { answer_u20 result ≡ bounded 20 value }
     {

@@ -15,6 +15,7 @@ fn has_peering(flags: u8) -> bool
 
 // Whether peering is set on both of two info fields, `info_fields` being their number. Bytes that end before the second one's flags
 // have none.
+#[tactic(auto, unfolding(crate::specs::Standard::both_peering, path_fields::specs::Fields::info_field_at))]
 pub fn both_peering(info_fields: usize, bytes: &[u8]) -> bool
     ensures { result ≡ spec.both_peering bytes.now info_fields }
 {

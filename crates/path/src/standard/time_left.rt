@@ -62,6 +62,7 @@ impl StandardPath {
     }
 
     // The record's expiry less `at`, both within their bounds.
+    #[tactic(auto, unfolding(crate::specs::TimeLeft::time_left_of, crate::specs::TimeLeft::time_left_found))]
     pub fn time_left(self, at: u64) -> TimeLeft
         ensures { result ≡ spec.time_left_found self (spec.time_left_of self at) }
     {

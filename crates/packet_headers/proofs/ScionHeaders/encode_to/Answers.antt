@@ -4,7 +4,7 @@ use mathlib.Core.Path.{◌≡◌, refl, sym, ap, ◌∙◌}
 use native.Mathlib.Omega.{arith}
 use lib.Dec.{eqb}
 use lib.ListN.{length}
-use borrow.Author.Tests.{lt-leb, le-leb, eq-eqb, ne_eqb, eqb-true}
+use borrow.Author.Tests.{le-leb, ne_eqb, eqb-true}
 use Rattle.errors.specs.Errors.{encoded_of}
 use Rattle.errors.proofs.Errors.{written}
 use Rattle.packet_common_header.specs.CommonHeader.{common_fits}
@@ -20,30 +20,6 @@ use Rattle.packet_headers.proofs.ScionHeaders.encode_to.Goals.{After-fields_fit,
 fits : (c : After-fields_fit) → common_fits (common_of c.args.self) ≡ c.fields_fit.result
 unfolding common_fits common_of on_wire host_on_wire
 fits c = sym (rw c.on_wire-wire.ensures at c.fields_fit.ensures)
-
-pub returns-then-not-fields_fit : goal.returns-then-not-fields_fit
-unfolding write_headers encoded_of
-returns-then-not-fields_fit c =
-    rw (fits (goal.at.returns-then-not-fields_fit c).After-fields_fit, c.if-not-fields_fit.true) (record { value = refl; dst_after = refl })
-
-pub returns-then-self-eq0 : goal.returns-then-self-eq0
-unfolding write_headers encoded_of
-returns-then-self-eq0 c =
-    let fit = fits (goal.at.returns-then-self-eq0 c).After-fields_fit ∙ c.if-not-fields_fit.false in
-    rw (fit, eq-eqb _ _ c.if-self-eq0.true) (record { value = refl; dst_after = refl })
-
-pub returns-then-self-gt255 : goal.returns-then-self-gt255
-unfolding write_headers encoded_of
-returns-then-self-gt255 c =
-    let fit = fits (goal.at.returns-then-self-gt255 c).After-fields_fit ∙ c.if-not-fields_fit.false in
-    rw (fit, ne_eqb _ _ c.if-self-eq0.false, lt-leb _ _ c.if-self-gt255.true) (record { value = refl; dst_after = refl })
-
-pub returns-then-self-gt65535 : goal.returns-then-self-gt65535
-unfolding write_headers encoded_of
-returns-then-self-gt65535 c =
-    let fit = fits (goal.at.returns-then-self-gt65535 c).After-fields_fit ∙ c.if-not-fields_fit.false in
-    rw (fit, ne_eqb _ _ c.if-self-eq0.false, le-leb _ _ c.if-self-gt255.false, lt-leb _ _ c.if-self-gt65535.true)
-    (record { value = refl; dst_after = refl })
 
 -- the length of the address header
 long : (c : After-fills) → c.encoded_length-fixed.result ≡ address_length c.args.self.address
@@ -61,9 +37,9 @@ returns-then-not-fills c =
     let way = goal.at.returns-then-not-fills c in
     rw (
       fits way.After-fields_fit ∙ c.if-not-fields_fit.false,
-      ne_eqb _ _ c.if-self-eq0.false,
-      le-leb _ _ c.if-self-gt255.false,
-      le-leb _ _ c.if-self-gt65535.false,
+      ne_eqb c.args.self.header_length_factor 0 (λ e. omega arith),
+      le-leb c.args.self.header_length_factor 255 (omega arith),
+      le-leb c.args.self.payload_length 65535 (omega arith),
       filled way.After-fills,
       c.if-not-fills.true,
     )
@@ -86,9 +62,10 @@ returns c =
     let sixteen : Sixteen args.self.address = record { destination_sixteen = search rules; source_sixteen = search rules } in
     let wire = c.on_wire-wire.ensures in
     let fit = fits way.After-fields_fit ∙ c.if-not-fields_fit.false in
-    let exact = eqb-true _ _ (filled way.After-fills ∙ c.if-not-fills.false) in
-    let accepted = headers-written args.self args.path.now _ fit c.if-self-eq0.false c.if-self-gt255.false c.if-self-gt65535.false exact in
-    let all = three_written args.self args.path.now args.dst.now sixteen exact fit c.if-self-eq0.false
+    let exact : length args.dst.now ≡ headers_length args.self.address args.self.path_type (length args.path.now) =
+    eqb-true _ _ (filled way.After-fills ∙ c.if-not-fills.false) in
+    let accepted = headers-written args.self args.path.now _ fit (λ e. omega arith) (omega arith) (omega arith) exact in
+    let all = three_written args.self args.path.now args.dst.now sixteen exact fit (λ e. omega arith)
     (rw (wire, bytes_on_wire args.self.address) at c.put.ensures.dst_after)
     (rw wire at c.encode_to.ensures.dst_after)
     (rw (long way.After-fills, c.path_length-added.ensures) at c.put_slice.ensures.dst_after) in

@@ -4,7 +4,7 @@ use mathlib.Core.List.{List}
 use mathlib.Core.Path.{◌≡◌, sym, ◌∙◌}
 use mathlib.Core.Bool.{Bool, not}
 use native.Mathlib.Omega.{arith}
-use borrow.Author.Tests.{eq-eqb, ne_eqb}
+use borrow.Author.Tests.{eq-eqb}
 use Rattle.wire_encoding.proofs.BigEndian.{or_zero_is}
 use Rattle.path.specs.Standard.{info_at}
 use Rattle.path_moves.specs.Moves.{change_of, move_from, takes_in}
@@ -21,11 +21,6 @@ overflow_cast-position-2 c =
     let pre = c.requires in
     let known = standing_at _ _ pre.can_move pre.self_value in
     omega arith
-
-pub returns-then-next-segment : goal.returns-then-next-segment
-unfolding move_from change_of takes_in
-returns-then-next-segment c =
-    rw (← c.wide-hop.ensures.0, ← c.segment_of-next.ensures.0, ← c.wide-segment.ensures.0, ne_eqb _ _ c.if-next-segment.true)
 
 pub info_field_at-info_field-requires : goal.info_field_at-info_field-requires
 info_field_at-info_field-requires c =
@@ -56,7 +51,7 @@ unfolding move_from change_of
 returns-then-is_spared c =
     let a = c.args in
     let taken =
-    taken_is a.bytes.now a.meta_header a.self c.wide-segment.ensures.0 c.wide-hop.ensures.0 c.segment_of-next.ensures.0 c.if-next-segment.false
+    taken_is a.bytes.now a.meta_header a.self c.wide-segment.ensures.0 c.wide-hop.ensures.0 c.segment_of-next.ensures.0 (cc)
     c.info_field_at-info_field.ensures c.owner_of-owner.ensures.0 c.segment_length.ensures.0 c.is_spared.ensures in
     rw (taken, c.if-is_spared.true, ← c.wide-hop.ensures.0, ← c.segment_of-next.ensures.0)
 
@@ -69,7 +64,7 @@ returns c =
     let read = c.info_field_at-info_field.ensures in
     let owner = c.owner_of-owner.ensures.0 in
     let taken =
-    taken_is a.bytes.now a.meta_header a.self segment c.wide-hop.ensures.0 c.segment_of-next.ensures.0 c.if-next-segment.false
+    taken_is a.bytes.now a.meta_header a.self segment c.wide-hop.ensures.0 c.segment_of-next.ensures.0 (cc)
     read owner c.segment_length.ensures.0 c.is_spared.ensures in
     let owner_at = c.hop_fields_start.result + c.owner_of-owner.result * 12 in
     rw (

@@ -74,22 +74,22 @@ path c found =
 pub overflow_sub-end : goal.overflow_sub-end
 overflow_sub-end c = start_inside (address (goal.at.overflow_sub-end c).In_default)
 
-pub returns-then-len-end : goal.returns-then-len-end
-returns-then-len-end c =
-    let way = goal.at.returns-then-len-end c in
-    let found = path way.In_default-path_answer (address way.In_default) in
-    rw (left_over found c.if-len-end.true) c.refused-then-len-end.ensures
-
 pub returns-then-bytes-end : goal.returns-then-bytes-end
 returns-then-bytes-end c =
     let way = goal.at.returns-then-bytes-end c in
     let found = path way.In_default-path_answer (address way.In_default) in
     let short = rw c.payload_size-size.ensures at c.if-bytes-end.true in
-    rw (payload_short found c.if-len-end.false short) c.refused-then-bytes-end.ensures
+    rw (payload_short found (omega arith) short) c.refused-then-bytes-end.ensures
 
 pub returns : goal.returns
 returns c =
     let way = goal.at.returns c in
     let found = path way.In_default-path_answer (address way.In_default) in
     let there = rw c.payload_size-size.ensures at c.if-bytes-end.false in
-    rw c.payload_size-size.ensures (packet_split found c.if-len-end.false there)
+    rw c.payload_size-size.ensures (packet_split found (omega arith) there)
+
+pub returns-then-len-end : goal.returns-then-len-end
+returns-then-len-end c =
+    let way = goal.at.returns-then-len-end c in
+    let found = path way.In_default-path_answer (address way.In_default) in
+    rw (left_over found c.if-len-end.true) c.refused-then-len-end.ensures
