@@ -67,29 +67,29 @@ fn keep_rest(text: &mut [u8], start: usize, end: usize) -> usize
     end - start
 }
 
-// Reads until the input ends or a buffer is full; how many bytes it then holds.
-fn read_full(from: &mut impl Read, buffer: &mut [u8]) -> io::Result<usize>
-    ensures { IfOk result (λ n. n ≤ length buffer.old) }
+// Reads until the input ends, a read fails or a buffer is full; how many bytes it then holds.
+fn read_full(from: &mut impl Read, buffer: &mut [u8]) -> usize
+    ensures { result ≤ length buffer.old }
 {
     let mut filled: usize = 0;
     while filled < buffer.len() {
-        let got = from.read(&mut buffer[filled..])?;
-        if got == 0 {
-            break;
+        match from.read(&mut buffer[filled..]) {
+            Ok(0) => break,
+            Ok(got) => filled += got,
+            Err(_) => break,
         }
-        filled += got;
     }
-    Ok(filled)
+    filled
 }
 
 // Reads on after the `held` bytes of a line that has begun, which stay; how many bytes there are then.
-fn read_on(from: &mut impl Read, input: &mut [u8], held: usize) -> io::Result<usize>
+fn read_on(from: &mut impl Read, input: &mut [u8], held: usize) -> usize
     requires { held ≤ length input.old }
-    ensures count { IfOk result (λ n. n ≤ length input.old) }
+    ensures count { result ≤ length input.old }
     ensures line_begun { take held input.new ≡ take held input.old }
 {
-    let got = read_full(from, &mut input[held..])?;
-    Ok(held + got)
+    let got = read_full(from, &mut input[held..]);
+    held + got
 }
 
 // Executes the whole lines of what was read, and keeps the beginning of a line after them; how many bytes that is. Where an answer
@@ -110,7 +110,7 @@ fn main(rt: HostRuntime) -> io::Result<()> {
     let mut input = [0u8; 65536];
     let mut held: usize = 0;
     for _ in 0..32 {
-        let filled = read_on(&mut stdin, &mut input, held)?;
+        let filled = read_on(&mut stdin, &mut input, held);
         held = execute_lines(&rt, &mut input, filled)?;
     }
     Ok(())

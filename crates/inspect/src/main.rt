@@ -10,7 +10,7 @@ mod refusal;
 mod text;
 mod unread;
 
-ghost use Rattle.std.specs.Prelude.{◌≤◌, length, IfOk};
+ghost use Rattle.std.specs.Prelude.{◌≤◌, length};
 
 use errors::packet_error::Decoded;
 use packet::raw::ScionPacketRaw;
@@ -103,22 +103,22 @@ fn inspect(out: &impl Print, bytes: &[u8]) -> io::Result<()> {
     accepted(out, bytes, packet)
 }
 
-// Reads until a file ends or a buffer is full; how many bytes it then holds.
-fn read_full(file: &mut impl Read, buffer: &mut [u8]) -> io::Result<usize>
-    ensures { IfOk result (λ n. n ≤ length buffer.old) }
+// Reads until a file ends, a read fails or a buffer is full; how many bytes it then holds.
+fn read_full(file: &mut impl Read, buffer: &mut [u8]) -> usize
+    ensures { result ≤ length buffer.old }
 {
     let mut filled: usize = 0;
     while filled < buffer.len() {
-        let got = file.read(&mut buffer[filled..])?;
-        if got == 0 {
-            break;
+        match file.read(&mut buffer[filled..]) {
+            Ok(0) => break,
+            Ok(got) => filled += got,
+            Err(_) => break,
         }
-        filled += got;
     }
-    Ok(filled)
+    filled
 }
 
-// The packet that an open file holds. One read more tells a file's end from a file that is too long.
+// The packet that an open file holds. One read more tells a file's end from a read that failed and from a file that is too long.
 fn inspect_open(
     out: &impl Print,
     err: &impl Print,
@@ -126,10 +126,7 @@ fn inspect_open(
     file: &mut impl Read,
 ) -> io::Result<()> {
     let mut buffer = [0u8; 65536];
-    let length = match read_full(file, &mut buffer) {
-        Ok(length) => length,
-        Err(error) => return unread::not_read(out, err, name, error),
-    };
+    let length = read_full(file, &mut buffer);
     let mut beyond = [0u8; 1];
     match file.read(&mut beyond) {
         Ok(0) => inspect(out, &buffer[..length]),
