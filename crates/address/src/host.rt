@@ -1,4 +1,4 @@
-// Hosts. An enum can't hold an array: the sixteen bytes of an IP address stand beside it.
+// Hosts. The sixteen bytes of an IP address stand beside the enum.
 ghost use Rattle.std.specs.Prelude.{◌≡◌};
 ghost use Rattle.address.specs.Host.{host_type_of, host_type_number, type_of_host, host_kind, kind_of_type};
 
