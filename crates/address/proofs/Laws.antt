@@ -8,7 +8,7 @@ use lib.Dec.{ltb}
 use borrow.Author.Tests.{ltb-true, lt-ltb}
 use Rattle.wire_encoding.proofs.Bits.{bit_kept}
 use Rattle.wire_encoding.specs.Bits.{with_bit}
-use Rattle.wire_encoding.specs.Result.{ok, refused}
+use Rattle.std.specs.Prelude.{Ok, Err}
 use Rattle.wire_encoding.proofs.Result.{held, same_value}
 use Rattle.address.specs.Ia.{isd_of, asn_of, is_wildcard, joined, JoinedApart, ApartJoined}
 use Rattle.address.specs.Service.{multicast_of, anycast_of, MulticastOrNot}
@@ -47,7 +47,7 @@ types_read_back type.Svc = refl
 pub examples :
     (isd_of 0x0001_FF00_0000_0110 ≡ 1) × (asn_of 0x0001_FF00_0000_0110 ≡ 0xFF00_0000_0110) × (is_wildcard 0x0001_FF00_0000_0110 ≡ false)
     × (is_wildcard 0x0001_0000_0000_0000 ≡ true) × (is_wildcard 0x0000_0000_0000_0001 ≡ true)
-    × (joined 1 0xFF00_0000_0110 ≡ ok 0x0001_FF00_0000_0110) × (joined 0 0x1_0000_0000_0000 ≡ refused 10)
+    × (joined 1 0xFF00_0000_0110 ≡ Ok 0x0001_FF00_0000_0110) × (joined 0 0x1_0000_0000_0000 ≡ Err 10)
     × (multicast_of 0x0002 ≡ 0x8002) × (anycast_of 0x8002 ≡ 0x0002)
 unfolding joined with_bit
 examples = (refl, refl, refl, refl, refl, refl, refl, refl, refl)

@@ -1,6 +1,6 @@
 -- Network numbers (the draft's DstISD, DstAS, SrcISD, SrcAS): 64 bits, ISD the highest 16, AS the other 48.
-use Rattle.std.specs.Prelude.{ℕ, ◌+◌, ◌*◌, ◌/◌, ◌%◌, ◌^◌, ◌≡◌, Bool, ◌||◌, ltb, eqb}
-use Rattle.wire_encoding.specs.Result.{Result, ok, refused, require, ◌>>◌}
+use Rattle.std.specs.Prelude.{ℕ, ◌+◌, ◌*◌, ◌/◌, ◌%◌, ◌^◌, ◌≡◌, Bool, ◌||◌, ltb, eqb, Result, Ok, Err}
+use Rattle.wire_encoding.specs.Result.{require, ◌>>◌}
 use Rattle.address.specs.declared.ia.NewIsdAsn.{NewIsdAsn}
 use Rattle.address.specs.declared.ia.NewIsdAsn.TheVariants as new
 
@@ -18,15 +18,15 @@ is_wildcard number = eqb (isd_of number) 0 || eqb (asn_of number) 0
 unfoldable pub joined : ℕ → ℕ → Result ℕ ℕ
 joined isd asn = do
   require (ltb asn (2 ^ 48)) 10
-  ok (isd * 2 ^ 48 + asn)
+  Ok (isd * 2 ^ 48 + asn)
 
 -- what was joined is taken apart again, and the other way round
 abbrev pub JoinedApart : Type 0
-JoinedApart = (isd asn number : ℕ) → joined isd asn ≡ ok number → (isd_of number ≡ isd) × (asn_of number ≡ asn)
+JoinedApart = (isd asn number : ℕ) → joined isd asn ≡ Ok number → (isd_of number ≡ isd) × (asn_of number ≡ asn)
 
 abbrev pub ApartJoined : Type 0
-ApartJoined = (number : ℕ) → joined (isd_of number) (asn_of number) ≡ ok number
+ApartJoined = (number : ℕ) → joined (isd_of number) (asn_of number) ≡ Ok number
 
 abbrev pub answer_isd_asn : NewIsdAsn → Result ℕ ℕ
-answer_isd_asn (new.Value ia) = ok ia.0
-answer_isd_asn new.TooWide = refused 10
+answer_isd_asn (new.Value ia) = Ok ia.0
+answer_isd_asn new.TooWide = Err 10

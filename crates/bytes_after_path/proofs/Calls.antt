@@ -9,7 +9,8 @@ use lib.Dec.{ltb, eqb}
 use lib.ListN.{length, take, drop, get_or, set, length-drop, get_or-append}
 use lib.Seq.{take-append-le, drop-append-le}
 use borrow.Author.Tests.{ltb-true, eqb-true}
-use Rattle.wire_encoding.specs.Result.{Result, ok, refused, require, and_then, mapped}
+use Rattle.std.specs.Prelude.{Result, Ok, Err}
+use Rattle.wire_encoding.specs.Result.{require, and_then, mapped}
 use Rattle.wire_encoding.specs.BigEndian.{records}
 use Rattle.wire_encoding.specs.Bits.{with_bit}
 use Rattle.wire_encoding.proofs.Lists.{part_left, set-left}
@@ -57,7 +58,7 @@ module _ (p t : List ℕ) (m : PathMetaHeader) (r : Readable p m) where
   -- so the record is the same
   pub path-after : path_of 1 (p ++ t) ≡ path_of 1 p
   unfolding path_of
-  path-after = ap (λ (found : Result DecodeError Extent). (dataplane_read found).path) reading-after
+  path-after = ap (λ (found : Result Extent DecodeError). (dataplane_read found).path) reading-after
 
   -- FIELDS
 
@@ -90,13 +91,13 @@ module _ (p t : List ℕ) (m : PathMetaHeader) (r : Readable p m) where
   segment_expiry_after k = rw (standard_read (p ++ t) m after, standard_read p m r) (go (ltb k (info_fields_count m)) refl)
     where
       go : (there : Bool) → ltb k (info_fields_count m) ≡ there
-          → require {A = ℕ} there NoSuchField (ok (segment_expiry (p ++ t) m k)) ≡ require there NoSuchField (ok (segment_expiry p m k))
-      go true e = ap ok (segment_expiry_same k (ltb-true _ _ e))
+          → require {A = ℕ} there NoSuchField (Ok (segment_expiry (p ++ t) m k)) ≡ require there NoSuchField (Ok (segment_expiry p m k))
+      go true e = ap Ok (segment_expiry_same k (ltb-true _ _ e))
       go false e = refl
 
   expiry_after : expiry_in 1 (p ++ t) ≡ expiry_in 1 p
   unfolding expiry_in
-  expiry_after = rw (standard_read (p ++ t) m after, standard_read p m r) (ap ok (expires_after p t m r))
+  expiry_after = rw (standard_read (p ++ t) m after, standard_read p m r) (ap Ok (expires_after p t m r))
 
   -- INTERFACES
 
@@ -116,14 +117,14 @@ module _ (p t : List ℕ) (m : PathMetaHeader) (r : Readable p m) where
   unfolding interface_in interface_at
   interface_after i = rw (standard_read (p ++ t) m after, standard_read p m r, hop_field_after i) (go (hop_field_on p m i) refl)
     where
-      found : List ℕ → ℕ → Result PathError Place
-      found bytes j = ok (record { hop = j; interface = interface_at bytes m j i })
+      found : List ℕ → ℕ → Result Place PathError
+      found bytes j = Ok (record { hop = j; interface = interface_at bytes m j i })
 
-      go : (of : Result PathError ℕ) → hop_field_on p m i ≡ of → and_then of (found (p ++ t)) ≡ and_then of (found p)
-      go (ok j) e =
+      go : (of : Result ℕ PathError) → hop_field_on p m i ≡ of → and_then of (found (p ++ t)) ≡ and_then of (found p)
+      go (Ok j) e =
           let there = interface_there p m r i e in
           rw (info-after (segment_of m j) there.segment_inside, hop-left p t (hop_start m j) there.hop_inside)
-      go (refused error) e = refl
+      go (Err error) e = refl
 
   -- COPY AND REVERSAL
 
@@ -163,9 +164,9 @@ module _ (p t : List ℕ) (m : PathMetaHeader) (r : Readable p m) where
       at = hop_start m j
 
       go : (there : Bool) → ltb j (hop_fields_count m) ≡ there
-          → and_then (require there NoSuchField (ok at))
-          (λ flags. ok (set (p ++ t) flags (with_bit bit on (get_or (p ++ t) flags 0))))
-          ≡ mapped (before t) (and_then (require there NoSuchField (ok at)) (λ flags. ok (set p flags (with_bit bit on (get_or p flags 0)))))
+          → and_then (require there NoSuchField (Ok at))
+          (λ flags. Ok (set (p ++ t) flags (with_bit bit on (get_or (p ++ t) flags 0))))
+          ≡ mapped (before t) (and_then (require there NoSuchField (Ok at)) (λ flags. Ok (set p flags (with_bit bit on (get_or p flags 0)))))
       go true e =
           let l = ltb-true j (hop_fields_count m) e in
           rw (get_or-append p t 0 at (omega (arith, whole)), set-left p t at (with_bit bit on (get_or p at 0)) (omega (arith, whole)))
@@ -176,16 +177,16 @@ module _ (p t : List ℕ) (m : PathMetaHeader) (r : Readable p m) where
   unfolding alerted
   alert_record_after bit on j = rw (standard_read (p ++ t) m after, standard_read p m r) (go (hop_field_offset m j) refl)
     where
-      flagged : List ℕ → ℕ → Result PathError (List ℕ)
-      flagged bytes flags = ok (set bytes flags (with_bit bit on (get_or bytes flags 0)))
+      flagged : List ℕ → ℕ → Result (List ℕ) PathError
+      flagged bytes flags = Ok (set bytes flags (with_bit bit on (get_or bytes flags 0)))
 
-      go : (offset : Result PathError ℕ) → hop_field_offset m j ≡ offset
+      go : (offset : Result ℕ PathError) → hop_field_offset m j ≡ offset
           → path_left 1 (and_then offset (flagged (p ++ t))) ≡ path_left 1 (and_then offset (flagged p))
-      go (ok flags) e =
+      go (Ok flags) e =
           path-alerted 1 (p ++ t) m j _ (standard_read (p ++ t) m after) e
           ∙ path-after
           ∙ sym (path-alerted 1 p m j _ (standard_read p m r) e)
-      go (refused error) e = refl
+      go (Err error) e = refl
 
   -- ALL OF THEM
 

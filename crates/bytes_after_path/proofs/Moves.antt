@@ -9,7 +9,8 @@ use lib.Bits.{bit_xor}
 use lib.ListN.{set, length-set}
 use lib.Seq.{sets}
 use borrow.Author.Tests.{eqb-false}
-use Rattle.wire_encoding.specs.Result.{Result, ok, refused, mapped, and_then, or_else, require}
+use Rattle.std.specs.Prelude.{Result, Ok, Err}
+use Rattle.wire_encoding.specs.Result.{mapped, and_then, or_else, require}
 use Rattle.wire_encoding.specs.BigEndian.{big_endian, bytes_of}
 use Rattle.wire_encoding.proofs.Lists.{Bytes, set-left, sets-left}
 use Rattle.wire_encoding.proofs.BigEndian.{length_bytes_of, number_left}
@@ -91,25 +92,25 @@ move_bytes_after p t m can =
 
 module _ (p t : List ℕ) (m : PathMetaHeader) (r : Readable p m) where
   -- what holds where both are moved, and where both are refused, holds of both
-  by_move : (P : Result PathError (List ℕ) → Result PathError (List ℕ) → Type 0)
-      → ((m : PathMetaHeader) → CanMove p m → P (ok (move_bytes p m ++ t)) (ok (move_bytes p m)))
-      → ((error : PathError) → P (refused error) (refused error)) → P (move 1 (p ++ t)) (move 1 p)
+  by_move : (P : Result (List ℕ) PathError → Result (List ℕ) PathError → Type 0)
+      → ((m : PathMetaHeader) → CanMove p m → P (Ok (move_bytes p m ++ t)) (Ok (move_bytes p m)))
+      → ((error : PathError) → P (Err error) (Err error)) → P (move 1 (p ++ t)) (move 1 p)
   unfolding move is_last
   by_move P made refusal = rw (movable-after p t m r) (go (movable 1 p) refl)
     where
-      left : List ℕ → PathMetaHeader → Result PathError (List ℕ)
-      left bytes m = require (not (is_last m m.current_hop_field)) AtLastHopField (ok (move_bytes bytes m))
+      left : List ℕ → PathMetaHeader → Result (List ℕ) PathError
+      left bytes m = require (not (is_last m m.current_hop_field)) AtLastHopField (Ok (move_bytes bytes m))
 
-      step : (m : PathMetaHeader) → movable 1 p ≡ ok m → (last : Bool) → is_last m m.current_hop_field ≡ last
-          → P (require (not last) AtLastHopField (ok (move_bytes (p ++ t) m))) (require (not last) AtLastHopField (ok (move_bytes p m)))
+      step : (m : PathMetaHeader) → movable 1 p ≡ Ok m → (last : Bool) → is_last m m.current_hop_field ≡ last
+          → P (require (not last) AtLastHopField (Ok (move_bytes (p ++ t) m))) (require (not last) AtLastHopField (Ok (move_bytes p m)))
       step m able true e = refusal AtLastHopField
       step m able false e =
           let can = can_move p m able (eqb-false (m.current_hop_field + 1) (hop_fields_count m) e) in
           rw (move_bytes_after p t m can) (made m can)
 
-      go : (able : Result PathError PathMetaHeader) → movable 1 p ≡ able → P (and_then able (left (p ++ t))) (and_then able (left p))
-      go (ok m) e = step m e (is_last m m.current_hop_field) refl
-      go (refused error) e = refusal error
+      go : (able : Result PathMetaHeader PathError) → movable 1 p ≡ able → P (and_then able (left (p ++ t))) (and_then able (left p))
+      go (Ok m) e = step m e (is_last m m.current_hop_field) refl
+      go (Err error) e = refusal error
 
   one_move_after : move 1 (p ++ t) ≡ mapped (before t) (move 1 p)
   one_move_after = by_move (λ x y. x ≡ mapped (before t) y) (λ m can. refl) (λ error. refl)
@@ -125,7 +126,7 @@ module _ (p t : List ℕ) (m : PathMetaHeader) (r : Readable p m) where
 
 -- A WALK
 
-module _ (p t : List ℕ) (small : Bytes p) (m : PathMetaHeader) (able : movable 1 p ≡ ok m) where
+module _ (p t : List ℕ) (small : Bytes p) (m : PathMetaHeader) (able : movable 1 p ≡ Ok m) where
   moves_after : (n : ℕ) → m.current_hop_field + n < hop_fields_count m → iterate n (moved 1) (p ++ t) ≡ iterate n (moved 1) p ++ t
   moves_after zero h = refl
   moves_after (suc n) h =
@@ -153,16 +154,16 @@ module _ (p t : List ℕ) (small : Bytes p) (m : PathMetaHeader) (r : Readable p
         arrived = is_last m (m.current_hop_field + walk_moves m limit);
       }
 
-  by_walk : (P : Result PathError Way → Result PathError Way → Type 0)
-      → ((m : PathMetaHeader) → movable 1 p ≡ ok m → P (ok (way_before t (gone p m))) (ok (gone p m)))
-      → ((error : PathError) → P (refused error) (refused error)) → P (walk 1 (p ++ t) limit) (walk 1 p limit)
+  by_walk : (P : Result Way PathError → Result Way PathError → Type 0)
+      → ((m : PathMetaHeader) → movable 1 p ≡ Ok m → P (Ok (way_before t (gone p m))) (Ok (gone p m)))
+      → ((error : PathError) → P (Err error) (Err error)) → P (walk 1 (p ++ t) limit) (walk 1 p limit)
   unfolding walk
   by_walk P made refusal = rw (movable-after p t m r) (go (movable 1 p) refl)
     where
-      go : (able : Result PathError PathMetaHeader) → movable 1 p ≡ able
-          → P (and_then able (λ m. ok (gone (p ++ t) m))) (and_then able (λ m. ok (gone p m)))
-      go (ok m) e = rw (moves_after p t small m e (walk_moves m limit) (walk_inside p t small m e limit)) (made m e)
-      go (refused error) e = refusal error
+      go : (able : Result PathMetaHeader PathError) → movable 1 p ≡ able
+          → P (and_then able (λ m. Ok (gone (p ++ t) m))) (and_then able (λ m. Ok (gone p m)))
+      go (Ok m) e = rw (moves_after p t small m e (walk_moves m limit) (walk_inside p t small m e limit)) (made m e)
+      go (Err error) e = refusal error
 
   walk_after : walk 1 (p ++ t) limit ≡ mapped (way_before t) (walk 1 p limit)
   walk_after = by_walk (λ x y. x ≡ mapped (way_before t) y) (λ m able. refl) (λ error. refl)

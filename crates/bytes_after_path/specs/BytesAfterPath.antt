@@ -1,7 +1,7 @@
 -- Bytes after a path: a standard path is as long as its meta header says, so other bytes may stand after it in the caller's slice. They
 -- are no part of it: what is read of the path does not hang on them, and a call that changes the path leaves them as they are.
-use Rattle.std.specs.Prelude.{ℕ, ◌<◌, ◌≡◌, Bool, List, ◌++◌, get_or}
-use Rattle.wire_encoding.specs.Result.{ok, mapped}
+use Rattle.std.specs.Prelude.{ℕ, ◌<◌, ◌≡◌, Bool, List, ◌++◌, get_or, Ok}
+use Rattle.wire_encoding.specs.Result.{mapped}
 use Rattle.path_meta_header.specs.declared.PathMetaHeader.{PathMetaHeader}
 use Rattle.path.specs.declared.standard.Part.{Part}
 use Rattle.path.specs.Standard.{read_path}
@@ -53,5 +53,5 @@ pub record ChangedAlike (p t : List ℕ) : Type 0 where
 -- for every path p of bytes that is read, and any t
 abbrev pub BytesAfterPath : Type 0
 BytesAfterPath =
-    (p t : List ℕ) (m : PathMetaHeader) → ((i : ℕ) → get_or p i 0 < 256) → read_path p ≡ ok m
+    (p t : List ℕ) (m : PathMetaHeader) → ((i : ℕ) → get_or p i 0 < 256) → read_path p ≡ Ok m
     → ReadAlike p t × WrittenAlike p t × ChangedAlike p t

@@ -5,7 +5,8 @@ use mathlib.Core.List.{List, ◌++◌}
 use Prim.Native.Nat.{ℕ, ◌<◌}
 use lib.ListN.{get_or, take}
 use lib.Seq.{take-add}
-use Rattle.wire_encoding.specs.Result.{Result, ok, or_else}
+use Rattle.std.specs.Prelude.{Result, Ok}
+use Rattle.wire_encoding.specs.Result.{or_else}
 use Rattle.wire_encoding.proofs.Lists.{bytes_of_lem}
 use Rattle.errors.specs.declared.packet_error.Decoded.TheVariants.{Accepted}
 use Rattle.errors.specs.declared.packet_error.DecodeError.{DecodeError}
@@ -25,7 +26,7 @@ use Rattle.equal_packets.specs.EqualPackets.{Filed, filed, packet_end, EqualPack
 
 -- up to the payload's end: the headers written again, then the payload
 pub all_again : (bytes : List ℕ) (p : Packet) → ((i : ℕ) → get_or bytes i 0 < 256) → Split bytes p
-    → take (packet_end (packet_answer (ok p))) bytes ≡ header_bytes (headers_of p) p.path_bytes ++ p.payload
+    → take (packet_end (packet_answer (Ok p))) bytes ≡ header_bytes (headers_of p) p.path_bytes ++ p.payload
 unfolding packet_answer header_length
 all_again bytes p small s =
     let n : ℕ = header_length p.common in
@@ -36,7 +37,7 @@ all_again bytes p small s =
 -- BY WHAT IS FILED
 
 -- what was accepted has a value
-pub was_read : (r : Result DecodeError Packet) → (packet_answer r).answer ≡ Accepted → r ≡ ok (or_else r zero_packet)
+pub was_read : (r : Result Packet DecodeError) → (packet_answer r).answer ≡ Accepted → r ≡ Ok (or_else r zero_packet)
 unfolding packet_answer
 was_read r h = decoded_ok r zero_packet refl refl h
 
@@ -46,8 +47,8 @@ filed_bytes f =
     let p : Packet = record { common = f.common; address = f.address; path = no_path; path_bytes = f.path; payload = f.payload } in
     header_bytes (headers_of p) f.path ++ f.payload
 
-module _ (read : Reader) (captured : (bytes : List ℕ) (p : Packet) → read bytes ≡ ok p → read_capture bytes ≡ ok p) (parts : PartsOfThePacket read) where
-  all_filed : (bytes : List ℕ) → ((i : ℕ) → get_or bytes i 0 < 256) → (p : Packet) → read bytes ≡ ok p
+module _ (read : Reader) (captured : (bytes : List ℕ) (p : Packet) → read bytes ≡ Ok p → read_capture bytes ≡ Ok p) (parts : PartsOfThePacket read) where
+  all_filed : (bytes : List ℕ) → ((i : ℕ) → get_or bytes i 0 < 256) → (p : Packet) → read bytes ≡ Ok p
       → take (packet_end (packet_answer (read bytes))) bytes ≡ filed_bytes (filed (packet_answer (read bytes)) bytes)
   unfolding filed filed_bytes packet_answer headers_of
   all_filed bytes small p e =

@@ -3,7 +3,8 @@
 use Prim.Native.Nat.{ℕ}
 use mathlib.Core.Path.{◌≡◌, refl, sym, ap}
 use native.Mathlib.Omega.{arith}
-use Rattle.wire_encoding.specs.Result.{Result, ok, refused, or_else}
+use Rattle.std.specs.Prelude.{Result, Ok, Err}
+use Rattle.wire_encoding.specs.Result.{or_else}
 use Rattle.errors.specs.Errors.{kind_number, decode_number, decode_value, decoded_number, decoded_of, answer_of, encoded_of, ValueOfTwoAndThree}
 use Rattle.errors.specs.declared.path_error.DataplanePathErrorKind.{DataplanePathErrorKind}
 use Rattle.errors.specs.declared.path_error.DataplanePathErrorKind.TheVariants as kind
@@ -60,35 +61,35 @@ zero_accepted (decoded.Refused error) h = absurd (decode_number_lem error h)
 -- a record that was handed back: its answer and its value are the result's, with `zero` in the place of a value that was refused
 module _ {A : Type 0} where
   -- of a reading
-  pub decoded_ok : (r : Result DecodeError A) (zero : A) {told : Decoded} {value : A} → told ≡ decoded_of r → value ≡ or_else r zero
-      → told ≡ decoded.Accepted → r ≡ ok value
-  decoded_ok (ok a) zero is same h = ap ok (sym same)
-  decoded_ok (refused error) zero is same h = let z : ◌≡◌ {A = ℕ} 0 1 = cc in absurd (omega arith)
+  pub decoded_ok : (r : Result A DecodeError) (zero : A) {told : Decoded} {value : A} → told ≡ decoded_of r → value ≡ or_else r zero
+      → told ≡ decoded.Accepted → r ≡ Ok value
+  decoded_ok (Ok a) zero is same h = ap Ok (sym same)
+  decoded_ok (Err error) zero is same h = let z : ◌≡◌ {A = ℕ} 0 1 = cc in absurd (omega arith)
 
-  pub decoded_refused : (r : Result DecodeError A) {told : Decoded} {error : DecodeError} → told ≡ decoded_of r → told ≡ decoded.Refused error → r
-      ≡ refused error
-  decoded_refused (ok a) is h = let z : ◌≡◌ {A = ℕ} 0 1 = cc in absurd (omega arith)
-  decoded_refused (refused error) is h = cc
+  pub decoded_refused : (r : Result A DecodeError) {told : Decoded} {error : DecodeError} → told ≡ decoded_of r → told ≡ decoded.Refused error → r
+      ≡ Err error
+  decoded_refused (Ok a) is h = let z : ◌≡◌ {A = ℕ} 0 1 = cc in absurd (omega arith)
+  decoded_refused (Err error) is h = cc
 
   -- of a call on a path
-  pub answer_ok : (r : Result PathError A) (zero : A) {told : Answer} {value : A} → told ≡ answer_of r → value ≡ or_else r zero
-      → told ≡ answer.Accepted → r ≡ ok value
-  answer_ok (ok a) zero is same h = ap ok (sym same)
-  answer_ok (refused error) zero is same h = let z : ◌≡◌ {A = ℕ} 0 1 = cc in absurd (omega arith)
+  pub answer_ok : (r : Result A PathError) (zero : A) {told : Answer} {value : A} → told ≡ answer_of r → value ≡ or_else r zero
+      → told ≡ answer.Accepted → r ≡ Ok value
+  answer_ok (Ok a) zero is same h = ap Ok (sym same)
+  answer_ok (Err error) zero is same h = let z : ◌≡◌ {A = ℕ} 0 1 = cc in absurd (omega arith)
 
-  pub answer_refused : (r : Result PathError A) {told : Answer} {error : PathError} → told ≡ answer_of r → told ≡ answer.Refused error → r
-      ≡ refused error
-  answer_refused (ok a) is h = let z : ◌≡◌ {A = ℕ} 0 1 = cc in absurd (omega arith)
-  answer_refused (refused error) is h = cc
+  pub answer_refused : (r : Result A PathError) {told : Answer} {error : PathError} → told ≡ answer_of r → told ≡ answer.Refused error → r
+      ≡ Err error
+  answer_refused (Ok a) is h = let z : ◌≡◌ {A = ℕ} 0 1 = cc in absurd (omega arith)
+  answer_refused (Err error) is h = cc
 
   -- the two ends of a call that writes: what it answers, with what the lent bytes then hold
-  pub written : (r : Result EncodeError A) (old : A) {new after : A} → r ≡ ok new → after ≡ new → (encoded.Done ≡ encoded_of r)
+  pub written : (r : Result A EncodeError) (old : A) {new after : A} → r ≡ Ok new → after ≡ new → (encoded.Done ≡ encoded_of r)
       × (after ≡ or_else r old)
   unfolding encoded_of
   written r old h e = rw h (refl, e)
 
-  pub kept : (r : Result EncodeError A) (old : A) {error : EncodeError} → encoded_of r ≡ encoded.Refused error
+  pub kept : (r : Result A EncodeError) (old : A) {error : EncodeError} → encoded_of r ≡ encoded.Refused error
       → (encoded.Refused error ≡ encoded_of r) × (old ≡ or_else r old)
   unfolding encoded_of
-  kept (ok a) old h = let z : ◌≡◌ {A = ℕ} 0 1 = cc in absurd (omega arith)
-  kept (refused error) old h = (sym h, refl)
+  kept (Ok a) old h = let z : ◌≡◌ {A = ℕ} 0 1 = cc in absurd (omega arith)
+  kept (Err error) old h = (sym h, refl)

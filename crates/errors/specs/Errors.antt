@@ -1,6 +1,6 @@
 -- The answers: document 01's number of each refusal, and the value that 2 and 3 carry; 0 for what is accepted.
-use Rattle.std.specs.Prelude.{ℕ, ◌≡◌}
-use Rattle.wire_encoding.specs.Result.{Result, told}
+use Rattle.std.specs.Prelude.{ℕ, ◌≡◌, Result}
+use Rattle.wire_encoding.specs.Result.{told}
 use Rattle.errors.specs.declared.path_error.DataplanePathErrorKind.{DataplanePathErrorKind}
 use Rattle.errors.specs.declared.path_error.DataplanePathErrorKind.TheVariants as kind
 use Rattle.errors.specs.declared.packet_error.DecodeError.{DecodeError}
@@ -87,11 +87,11 @@ ValueOfTwoAndThree = (error : PathError) → (path_number error ≡ 2 → ⊥) �
 
 -- A RESULT AS IT IS HANDED BACK
 
-abbrev pub decoded_of : {A : Type 0} → Result DecodeError A → Decoded
+abbrev pub decoded_of : {A : Type 0} → Result A DecodeError → Decoded
 decoded_of r = told r (λ a. decoded.Accepted) (λ error. decoded.Refused error)
 
-abbrev pub answer_of : {A : Type 0} → Result PathError A → Answer
+abbrev pub answer_of : {A : Type 0} → Result A PathError → Answer
 answer_of r = told r (λ a. answer.Accepted) (λ error. answer.Refused error)
 
-unfoldable pub encoded_of : {A : Type 0} → Result EncodeError A → Encoded
+unfoldable pub encoded_of : {A : Type 0} → Result A EncodeError → Encoded
 encoded_of r = told r (λ a. encoded.Done) (λ error. encoded.Refused error)

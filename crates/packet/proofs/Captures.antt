@@ -8,7 +8,7 @@ use native.Mathlib.Omega.{arith}
 use lib.ListN.{length, get_or, take, drop, length-drop}
 use lib.Dec.{ltb}
 use borrow.Author.Tests.{lt-ltb, le-ltb, ltb-true}
-use Rattle.wire_encoding.specs.Result.{Result, ok, refused}
+use Rattle.std.specs.Prelude.{Result, Ok, Err}
 use Rattle.wire_encoding.proofs.Result.{same_value, held, stepped}
 use Rattle.errors.specs.declared.packet_error.DecodeError.{DecodeError}
 use Rattle.errors.specs.declared.packet_error.DecodeError.TheVariants.{PacketEmptyOrTruncated}
@@ -28,12 +28,12 @@ unfolding capture_answer
 short_of_a_refusal bytes error h = rw h
 
 -- by the header that was read
-short_of : (bytes : List ℕ) {p : Packet} → read_capture bytes ≡ ok p → (capture_answer bytes).short ≡ is_short p.common bytes
+short_of : (bytes : List ℕ) {p : Packet} → read_capture bytes ≡ Ok p → (capture_answer bytes).short ≡ is_short p.common bytes
 unfolding capture_answer
 short_of bytes h = rw h
 
 -- by byte 5
-length_said : (bytes : List ℕ) {c : CommonHeader} → read_common bytes ≡ ok c → header_length c ≡ 4 * get_or bytes 5 0
+length_said : (bytes : List ℕ) {c : CommonHeader} → read_common bytes ≡ Ok c → header_length c ≡ 4 * get_or bytes 5 0
 unfolding common_at header_length
 length_said bytes h = let fields = (common_known bytes h).fields in rw fields
 
@@ -58,30 +58,30 @@ is_not true h = let z : ◌≡◌ {A = ℕ} 0 1 = cc in absurd (omega arith)
 is_not false h = refl
 
 -- the common header of what was read is the one that was read first
-common_is : (bytes : List ℕ) {c : CommonHeader} {p : Packet} → read_common bytes ≡ ok c → read_capture bytes ≡ ok p → c ≡ p.common
+common_is : (bytes : List ℕ) {c : CommonHeader} {p : Packet} → read_common bytes ≡ Ok c → read_capture bytes ≡ Ok p → c ≡ p.common
 common_is bytes common h = same_value (sym common ∙ (split bytes h).common)
 
 -- a packet that was read: the steps of a capture, and one test more
 record Longer (bytes : List ℕ) (p : Packet) : Type 0 where
-  captured : read_capture bytes ≡ ok p
+  captured : read_capture bytes ≡ Ok p
   long : is_short p.common bytes ≡ false
 
-longer : (bytes : List ℕ) {p : Packet} → read_packet bytes ≡ ok p → Longer bytes p
+longer : (bytes : List ℕ) {p : Packet} → read_packet bytes ≡ Ok p → Longer bytes p
 unfolding read_packet read_capture
 longer bytes {p} h =
     let common = stepped (read_common bytes) _ h in
     let long = held (not (is_short common.value bytes)) _ _ common.then in
-    let captured : read_capture bytes ≡ ok p = rw common.first long.1 in
+    let captured : read_capture bytes ≡ Ok p = rw common.first long.1 in
     record { captured = captured; long = rw (← common_is bytes common.first captured) (is_not _ long.0) }
 
-pub packet_captured : (bytes : List ℕ) {p : Packet} → read_packet bytes ≡ ok p → read_capture bytes ≡ ok p
+pub packet_captured : (bytes : List ℕ) {p : Packet} → read_packet bytes ≡ Ok p → read_capture bytes ≡ Ok p
 packet_captured bytes h = (longer bytes h).captured
 
 pub packets_are_captures : PacketsAreCaptures
 packets_are_captures bytes p h = let l = longer bytes h in (l.captured, short_of bytes l.captured ∙ l.long)
 
 -- where the common header is read and not short, the readers go on alike
-pub goes_on : (bytes : List ℕ) {c : CommonHeader} → read_common bytes ≡ ok c → is_short c bytes ≡ false
+pub goes_on : (bytes : List ℕ) {c : CommonHeader} → read_common bytes ≡ Ok c → is_short c bytes ≡ false
     → read_packet bytes ≡ read_capture bytes
 unfolding is_short
 goes_on bytes common long = then_rest false bytes common long ∙ sym (then_rest true bytes common refl)
@@ -106,13 +106,13 @@ pub long_enough_alike : LongEnoughAlike
 unfolding is_short
 long_enough_alike bytes long = go (read_common bytes) refl
   where
-    go : (r : Result DecodeError CommonHeader) → read_common bytes ≡ r → read_packet bytes ≡ read_capture bytes
-    go (ok c) e = goes_on bytes e (le-ltb (length bytes) (header_length c) (rw (length_said bytes e) long))
-    go (refused error) e = (common_header_first error).0 bytes e ∙ sym ((common_header_first error).1 bytes e)
+    go : (r : Result CommonHeader DecodeError) → read_common bytes ≡ r → read_packet bytes ≡ read_capture bytes
+    go (Ok c) e = goes_on bytes e (le-ltb (length bytes) (header_length c) (rw (length_said bytes e) long))
+    go (Err error) e = (common_header_first error).0 bytes e ∙ sym ((common_header_first error).1 bytes e)
 
 -- where it is read and short, the reader of packets stops
-pub short_refused : (bytes : List ℕ) {c : CommonHeader} → read_common bytes ≡ ok c → is_short c bytes ≡ true
-    → read_packet bytes ≡ refused PacketEmptyOrTruncated
+pub short_refused : (bytes : List ℕ) {c : CommonHeader} → read_common bytes ≡ Ok c → is_short c bytes ≡ true
+    → read_packet bytes ≡ Err PacketEmptyOrTruncated
 unfolding is_short
 short_refused bytes common short = then_short false bytes common short
 

@@ -9,7 +9,8 @@ use lib.ListN.{length, get_or, take, drop, length-drop, drop_of_length-le}
 use lib.Seq.{take-add, take_all, take-length, drop-length, drop_at, length-take-le}
 use lib.Dec.{ltb, leb, eqb}
 use borrow.Author.Tests.{le-ltb, lt-leb, le-leb, leb-true, leb-false, eq-eqb, ne_eqb, eqb-true}
-use Rattle.wire_encoding.specs.Result.{Result, ok, refused, mapped, or_else}
+use Rattle.std.specs.Prelude.{Result, Ok, Err}
+use Rattle.wire_encoding.specs.Result.{mapped, or_else}
 use Rattle.wire_encoding.specs.BigEndian.{part}
 use Rattle.wire_encoding.proofs.Result.{same_value, held, stepped}
 use Rattle.wire_encoding.proofs.Lists.{length_part}
@@ -31,21 +32,21 @@ use Rattle.packet.specs.Raw.{Packet, read_rest, is_short, read_packet, read_capt
 
 -- WHAT A STAGE HANDED BACK
 
-module _ (r : Result DecodeError CommonHeader) {x : CommonHeaderRead} (e : x ≡ common_answer r) where
-  pub common_ok : x.answer ≡ Accepted → r ≡ ok x.header
+module _ (r : Result CommonHeader DecodeError) {x : CommonHeaderRead} (e : x ≡ common_answer r) where
+  pub common_ok : x.answer ≡ Accepted → r ≡ Ok x.header
   unfolding common_answer
   common_ok = decoded_ok r zero_common (ap (λ (y : CommonHeaderRead). y.answer) e) (ap (λ (y : CommonHeaderRead). y.header) e)
 
-  pub common_refused : {error : DecodeError} → x.answer ≡ Refused error → r ≡ refused error
+  pub common_refused : {error : DecodeError} → x.answer ≡ Refused error → r ≡ Err error
   unfolding common_answer
   common_refused = decoded_refused r (ap (λ (y : CommonHeaderRead). y.answer) e)
 
-module _ (r : Result DecodeError AddressHeader) {x : AddressHeaderRead} (e : x ≡ address_answer r) where
-  pub address_ok : x.answer ≡ Accepted → r ≡ ok x.header
+module _ (r : Result AddressHeader DecodeError) {x : AddressHeaderRead} (e : x ≡ address_answer r) where
+  pub address_ok : x.answer ≡ Accepted → r ≡ Ok x.header
   unfolding address_answer
   address_ok = decoded_ok r zero_address (ap (λ (y : AddressHeaderRead). y.answer) e) (ap (λ (y : AddressHeaderRead). y.header) e)
 
-  pub address_refused : {error : DecodeError} → x.answer ≡ Refused error → r ≡ refused error
+  pub address_refused : {error : DecodeError} → x.answer ≡ Refused error → r ≡ Err error
   unfolding address_answer
   address_refused = decoded_refused r (ap (λ (y : AddressHeaderRead). y.answer) e)
 
@@ -54,31 +55,31 @@ module _ (r : Result DecodeError AddressHeader) {x : AddressHeaderRead} (e : x �
   address_long h = rw (address_ok h) at (ap (λ (y : AddressHeaderRead). y.length) e)
 
 -- whether a capture is short, by the header that is handed back: where it was refused its length is 0, and nothing is shorter
-pub short_handed : (r : Result DecodeError Packet) (bytes : List ℕ)
+pub short_handed : (r : Result Packet DecodeError) (bytes : List ℕ)
     → ltb (length bytes) (header_length (packet_answer r).common) ≡ or_else (mapped (λ (p : Packet). is_short p.common bytes) r) false
 unfolding packet_answer is_short header_length zero_common common_at
-short_handed (ok p) bytes = refl
-short_handed (refused error) bytes = le-ltb (length bytes) 0 (omega arith)
+short_handed (Ok p) bytes = refl
+short_handed (Err error) bytes = le-ltb (length bytes) 0 (omega arith)
 
 -- A PACKET OR A CAPTURE, STAGE BY STAGE
 
 -- refused with the common header
-pub first_refused : (capture : Bool) (bytes : List ℕ) {error : DecodeError} → read_common bytes ≡ refused error
-    → reader_of capture bytes ≡ refused error
+pub first_refused : (capture : Bool) (bytes : List ℕ) {error : DecodeError} → read_common bytes ≡ Err error
+    → reader_of capture bytes ≡ Err error
 unfolding read_packet read_capture
 first_refused true bytes common = rw common
 first_refused false bytes common = rw common
 
 -- refused for being short, a packet alone
-pub then_short : (capture : Bool) (bytes : List ℕ) {c : CommonHeader} → read_common bytes ≡ ok c
+pub then_short : (capture : Bool) (bytes : List ℕ) {c : CommonHeader} → read_common bytes ≡ Ok c
     → cond capture false (ltb (length bytes) (header_length c)) ≡ true
-    → reader_of capture bytes ≡ refused PacketEmptyOrTruncated
+    → reader_of capture bytes ≡ Err PacketEmptyOrTruncated
 unfolding read_packet is_short
 then_short true bytes common short = let z : ◌≡◌ {A = ℕ} 0 1 = cc in absurd (omega arith)
 then_short false bytes common short = rw (common, short)
 
 -- read on
-pub then_rest : (capture : Bool) (bytes : List ℕ) {c : CommonHeader} → read_common bytes ≡ ok c
+pub then_rest : (capture : Bool) (bytes : List ℕ) {c : CommonHeader} → read_common bytes ≡ Ok c
     → cond capture false (ltb (length bytes) (header_length c)) ≡ false
     → reader_of capture bytes ≡ read_rest c bytes
 unfolding read_packet read_capture is_short
@@ -110,7 +111,7 @@ seen k m end l ends inside =
 
 -- a common header that was read, and where the headers end
 pub record CommonFound (bytes : List ℕ) (c : CommonHeader) (end : ℕ) : Type 0 where
-  pub common : read_common bytes ≡ ok c
+  pub common : read_common bytes ≡ Ok c
   pub ends : end ≡ min (header_length c) (length bytes)
 
 module _ {bytes : List ℕ} {c : CommonHeader} {end : ℕ} (f : CommonFound bytes c end) where
@@ -137,7 +138,7 @@ module _ {bytes : List ℕ} {c : CommonHeader} {end : ℕ} (f : CommonFound byte
 -- an address header that was read after it, and where the path starts
 pub record AddressFound (bytes : List ℕ) (c : CommonHeader) (end : ℕ) (a : AddressHeader) (start : ℕ) : Type 0 where
   pub first : CommonFound bytes c end
-  pub address : read_address (drop 12 (take (header_length c) bytes)) c.destination_kind c.source_kind ≡ ok a
+  pub address : read_address (drop 12 (take (header_length c) bytes)) c.destination_kind c.source_kind ≡ Ok a
   pub starts : start ≡ 12 + address_length a
 
 module _ {bytes : List ℕ} {c : CommonHeader} {end : ℕ} {a : AddressHeader} {start : ℕ} (f : AddressFound bytes c end a start) where
@@ -161,10 +162,10 @@ module _ {bytes : List ℕ} {c : CommonHeader} {end : ℕ} {a : AddressHeader} {
 -- a path that was read after it
 pub record PathFound (bytes : List ℕ) (c : CommonHeader) (end : ℕ) (a : AddressHeader) (start : ℕ) (read : Extent) : Type 0 where
   pub second : AddressFound bytes c end a start
-  pub path : read_dataplane c.path_type (drop (12 + address_length a) (take (header_length c) bytes)) ≡ ok read
+  pub path : read_dataplane c.path_type (drop (12 + address_length a) (take (header_length c) bytes)) ≡ Ok read
 
 module _ {bytes : List ℕ} {c : CommonHeader} {end : ℕ} {a : AddressHeader} {start : ℕ} {read : Extent} (f : PathFound bytes c end a start read) where
-  pub left_over : (read.length ≡ end - start → ⊥) → read_rest c bytes ≡ refused InconsistentPathLength
+  pub left_over : (read.length ≡ end - start → ⊥) → read_rest c bytes ≡ Err InconsistentPathLength
   unfolding read_rest
   left_over other = rw (f.second.address, f.path, ne_eqb _ _ (λ same. other (same ∙ length-path f.second)))
 
@@ -172,7 +173,7 @@ module _ {bytes : List ℕ} {c : CommonHeader} {end : ℕ} {a : AddressHeader} {
     fills : length (drop (12 + address_length a) (take (header_length c) bytes)) ≡ read.length
     fills = length-path f.second ∙ sym whole
 
-    pub payload_short : length bytes - end < c.payload_length → read_rest c bytes ≡ refused PacketEmptyOrTruncated
+    pub payload_short : length bytes - end < c.payload_length → read_rest c bytes ≡ Err PacketEmptyOrTruncated
     unfolding read_rest
     payload_short few =
         let short : length (drop (header_length c) bytes) < c.payload_length = rw (length_rest f.second) few in
@@ -208,16 +209,16 @@ module _ {bytes : List ℕ} {c : CommonHeader} {end : ℕ} {a : AddressHeader} {
 
 pub record Split (bytes : List ℕ) (p : Packet) : Type 0 where
   pub read : Extent
-  pub common : read_common bytes ≡ ok p.common
+  pub common : read_common bytes ≡ Ok p.common
   pub address :
-      read_address (drop 12 (take (header_length p.common) bytes)) p.common.destination_kind p.common.source_kind ≡ ok p.address
-  pub path : read_dataplane p.common.path_type p.path_bytes ≡ ok read
+      read_address (drop 12 (take (header_length p.common) bytes)) p.common.destination_kind p.common.source_kind ≡ Ok p.address
+  pub path : read_dataplane p.common.path_type p.path_bytes ≡ Ok read
   pub path_is : p.path_bytes ≡ drop (12 + address_length p.address) (take (header_length p.common) bytes)
   pub whole : read.length ≡ length p.path_bytes
   pub room : p.common.payload_length ≤ length (drop (header_length p.common) bytes)
   pub payload_is : p.payload ≡ take p.common.payload_length (drop (header_length p.common) bytes)
 
-split_rest : (bytes : List ℕ) {c : CommonHeader} {p : Packet} → read_common bytes ≡ ok c → read_rest c bytes ≡ ok p → Split bytes p
+split_rest : (bytes : List ℕ) {c : CommonHeader} {p : Packet} → read_common bytes ≡ Ok c → read_rest c bytes ≡ Ok p → Split bytes p
 unfolding read_rest
 split_rest bytes {c = c} common h =
     let headers = take (header_length c) bytes in
@@ -238,21 +239,21 @@ split_rest bytes {c = c} common h =
       payload_is = refl;
     })
 
-pub split : (bytes : List ℕ) {p : Packet} → read_capture bytes ≡ ok p → Split bytes p
+pub split : (bytes : List ℕ) {p : Packet} → read_capture bytes ≡ Ok p → Split bytes p
 unfolding read_capture
 split bytes h = let common = stepped (read_common bytes) _ h in split_rest bytes common.first common.then
 
 -- the other way round: a capture whose stages all accept is read
 pub capture_accepted : (bytes headers rest path payload : List ℕ) (c : CommonHeader) (a : AddressHeader) (stored : StandardPath)
-    → read_common bytes ≡ ok c
+    → read_common bytes ≡ Ok c
     → take (header_length c) bytes ≡ headers
     → drop (header_length c) bytes ≡ rest
-    → read_address (drop 12 headers) c.destination_kind c.source_kind ≡ ok a
+    → read_address (drop 12 headers) c.destination_kind c.source_kind ≡ Ok a
     → drop (12 + address_length a) headers ≡ path
-    → read_dataplane c.path_type path ≡ ok (record { path = stored; length = length path })
+    → read_dataplane c.path_type path ≡ Ok (record { path = stored; length = length path })
     → c.payload_length ≤ length rest
     → take c.payload_length rest ≡ payload
-    → read_capture bytes ≡ ok (record { common = c; address = a; path = stored; path_bytes = path; payload = payload })
+    → read_capture bytes ≡ Ok (record { common = c; address = a; path = stored; path_bytes = path; payload = payload })
 unfolding read_capture read_rest
 capture_accepted bytes headers rest path payload c a stored common taken left address sees accepted room own =
     rw (common, taken, left, address, sees, accepted, eq-eqb (length path) (length path) refl, le-leb _ _ room, own)

@@ -1,6 +1,6 @@
 -- A packet: the draft's Common Header, Address Header, path and payload, one after the other.
-use Rattle.std.specs.Prelude.{ℕ, ◌+◌, Bool, false, not, cond, List, [], length, take, drop, ltb, leb, eqb}
-use Rattle.wire_encoding.specs.Result.{Result, ok, require, ◌>>◌, ◌>>=◌, mapped, or_else}
+use Rattle.std.specs.Prelude.{ℕ, ◌+◌, Bool, false, not, cond, List, [], length, take, drop, ltb, leb, eqb, Result, Ok}
+use Rattle.wire_encoding.specs.Result.{require, ◌>>◌, ◌>>=◌, mapped, or_else}
 use Rattle.errors.specs.declared.packet_error.DecodeError.{DecodeError}
 use Rattle.errors.specs.declared.packet_error.DecodeError.TheVariants.{PacketEmptyOrTruncated, InconsistentPathLength}
 use Rattle.path.specs.Standard.{no_path}
@@ -28,7 +28,7 @@ pub record Packet : Type 0 where
 
 -- 01's order, after the common header's tests. The headers are the first 4 × factor bytes, or all there are; the path is what the other
 -- headers leave of them
-unfoldable pub read_rest : CommonHeader → List ℕ → Result DecodeError Packet
+unfoldable pub read_rest : CommonHeader → List ℕ → Result Packet DecodeError
 read_rest c bytes = do
   let headers = take (header_length c) bytes
   let rest = drop (header_length c) bytes
@@ -37,27 +37,27 @@ read_rest c bytes = do
   read ← read_dataplane c.path_type path
   require (eqb read.length (length path)) InconsistentPathLength
   require (leb c.payload_length (length rest)) PacketEmptyOrTruncated
-  ok (record { common = c; address = a; path = read.path; path_bytes = path; payload = take c.payload_length rest })
+  Ok (record { common = c; address = a; path = read.path; path_bytes = path; payload = take c.payload_length rest })
 
 -- short: fewer than 4 × factor bytes
 unfoldable pub is_short : CommonHeader → List ℕ → Bool
 is_short c bytes = ltb (length bytes) (header_length c)
 
 -- a packet. 2026-06: one that is short is refused with 1, directly after the factor test, the last of the common header's
-unfoldable pub read_packet : List ℕ → Result DecodeError Packet
+unfoldable pub read_packet : List ℕ → Result Packet DecodeError
 read_packet bytes = do
   c ← read_common bytes
   require (not (is_short c bytes)) PacketEmptyOrTruncated
   read_rest c bytes
 
 -- a capture: without that test
-unfoldable pub read_capture : List ℕ → Result DecodeError Packet
+unfoldable pub read_capture : List ℕ → Result Packet DecodeError
 read_capture bytes = do
   common ← read_common bytes
   read_rest common bytes
 
 -- the reader of captures, or that of packets
-abbrev pub reader_of : Bool → List ℕ → Result DecodeError Packet
+abbrev pub reader_of : Bool → List ℕ → Result Packet DecodeError
 reader_of capture bytes = cond capture (read_capture bytes) (read_packet bytes)
 
 -- WHAT IS HANDED BACK
@@ -75,7 +75,7 @@ abbrev pub zero_packet : Packet
 zero_packet = record { common = zero_common; address = zero_address; path = no_path; path_bytes = []; payload = [] }
 
 -- as it is handed back; all zero where it is refused
-unfoldable pub packet_answer : Result DecodeError Packet → ScionPacketRaw
+unfoldable pub packet_answer : Result Packet DecodeError → ScionPacketRaw
 packet_answer r =
     let p = or_else r zero_packet in
     record {

@@ -10,7 +10,8 @@ use lib.ListN.{length, take, drop, set, replicate, length-take, length-append}
 use lib.Seq.{sets, length-sets, length-take-le, take-add}
 use lib.Dec.{leb, eqb}
 use borrow.Author.Tests.{lt-ltb, le-leb, lt-leb, leb-true, eq-eqb, eqb-true}
-use Rattle.wire_encoding.specs.Result.{Result, ok, refused, require, or_else}
+use Rattle.std.specs.Prelude.{Result, Ok, Err}
+use Rattle.wire_encoding.specs.Result.{require, or_else}
 use Rattle.wire_encoding.specs.BigEndian.{bytes_of, number_at, part, placed}
 use Rattle.wire_encoding.proofs.Result.{same_value, held}
 use Rattle.wire_encoding.proofs.Lists.{Bytes, length_part, written_after, set-sets}
@@ -101,14 +102,14 @@ module _ (bytes : List ℕ) (destination source : ℕ) where
 
   -- too few bytes for all is too few for the networks, for the destination's host or for the source's
   pub truncated : length bytes < 16 + host_length destination + host_length source
-      → read_address bytes destination source ≡ refused PacketEmptyOrTruncated
+      → read_address bytes destination source ≡ Err PacketEmptyOrTruncated
   unfolding read_address
   truncated short =
       rw (lt-leb (16 + host_length destination + host_length source) (length bytes) short)
       (go (leb 16 (length bytes)) (leb (16 + host_length destination) (length bytes)))
     where
-      cut : Result DecodeError AddressHeader
-      cut = refused PacketEmptyOrTruncated
+      cut : Result AddressHeader DecodeError
+      cut = Err PacketEmptyOrTruncated
 
       go : (x y : Bool) → require x PacketEmptyOrTruncated (require y PacketEmptyOrTruncated cut) ≡ cut
       go false y = refl
@@ -116,7 +117,7 @@ module _ (bytes : List ℕ) (destination source : ℕ) where
       go true true = refl
 
   -- and enough for all is enough for each
-  pub address_read_lem : length_of_kinds destination source ≤ length bytes → read_address bytes destination source ≡ ok (address_at bytes destination source)
+  pub address_read_lem : length_of_kinds destination source ≤ length bytes → read_address bytes destination source ≡ Ok (address_at bytes destination source)
   unfolding read_address length_of_kinds
   address_read_lem long =
       rw (
@@ -130,7 +131,7 @@ module _ (bytes : List ℕ) (destination source : ℕ) where
     pub header : a ≡ address_at bytes destination source
     pub inside : length_of_kinds destination source ≤ length bytes
 
-  pub address_known : {a : AddressHeader} → read_address bytes destination source ≡ ok a → AddressKnown a
+  pub address_known : {a : AddressHeader} → read_address bytes destination source ≡ Ok a → AddressKnown a
   unfolding read_address length_of_kinds
   address_known h =
       let networks = held (leb 16 (length bytes)) _ _ h in
@@ -177,7 +178,7 @@ length-address_bytes a s = ap length (sym (bytes_on_wire a)) ∙ length-wire_byt
 
 -- where the kinds fit and the size is right, it is written
 pub address_written : (a : AddressHeader) (n : ℕ) → kind_of a.destination.host < 16 → kind_of a.source.host < 16 → n ≡ address_length a
-    → write_address a n ≡ ok (address_bytes a)
+    → write_address a n ≡ Ok (address_bytes a)
 unfolding write_address
 address_written a n to from exact = rw (lt-ltb _ _ to, lt-ltb _ _ from, eq-eqb _ _ exact)
 

@@ -1,8 +1,8 @@
 -- The draft's Address Header: DstISD and DstAS, SrcISD and SrcAS (a network number of 64 bits each), DstHostAddr, SrcHostAddr; what
 -- reading one finds, and what writing one does.
-use Rattle.std.specs.Prelude.{ℕ, ◌+◌, true, false, cond, ◌&&◌, List, [], ◌++◌, length, take, replicate, ltb, leb, eqb}
+use Rattle.std.specs.Prelude.{ℕ, ◌+◌, true, false, cond, ◌&&◌, List, [], ◌++◌, length, take, replicate, ltb, leb, eqb, Result, Ok}
 use Rattle.std.proofs.lemmas.List.Edits.{sets}
-use Rattle.wire_encoding.specs.Result.{Result, ok, require, ◌>>◌, mapped, or_else}
+use Rattle.wire_encoding.specs.Result.{require, ◌>>◌, mapped, or_else}
 use Rattle.wire_encoding.specs.BigEndian.{big_endian, bytes_of, part}
 use Rattle.address.specs.Host.{host_kind}
 use Rattle.address.specs.ScionAddress.{address_of}
@@ -104,19 +104,19 @@ address_at bytes destination source =
     }
 
 -- 01's order: under 16 bytes, destination host too short, source host too short
-unfoldable pub read_address : List ℕ → ℕ → ℕ → Result DecodeError AddressHeader
+unfoldable pub read_address : List ℕ → ℕ → ℕ → Result AddressHeader DecodeError
 read_address bytes destination source = do
   require (leb 16 (length bytes)) PacketEmptyOrTruncated
   require (leb (16 + host_length destination) (length bytes)) PacketEmptyOrTruncated
   require (leb (16 + host_length destination + host_length source) (length bytes)) PacketEmptyOrTruncated
-  ok (address_at bytes destination source)
+  Ok (address_at bytes destination source)
 
 -- every field zero
 unfoldable pub zero_address : AddressHeader
 zero_address = address_at [] 0 0
 
 -- as it is handed back, beside its length; all zero where it is refused
-unfoldable pub address_answer : Result DecodeError AddressHeader → AddressHeaderRead
+unfoldable pub address_answer : Result AddressHeader DecodeError → AddressHeaderRead
 address_answer r =
     record { answer = decoded_of r; header = or_else r zero_address; length = or_else (mapped address_length r) 0 }
 
@@ -139,11 +139,11 @@ address_bytes a =
     bytes_of 8 a.destination_ia.0 ++ (bytes_of 8 a.source_ia.0 ++ (host_bytes a.destination ++ host_bytes a.source))
 
 -- what a destination of this size then holds; 01's order: a host kind of more than 4 bits, another size
-unfoldable pub write_address : AddressHeader → ℕ → Result EncodeError (List ℕ)
+unfoldable pub write_address : AddressHeader → ℕ → Result (List ℕ) EncodeError
 write_address a size = do
   require (ltb (kind_of a.destination.host) 16 && ltb (kind_of a.source.host) 16) NumberTooWide
   require (eqb size (address_length a)) InadequateBufferSize
-  ok (address_bytes a)
+  Ok (address_bytes a)
 
 -- THE HEADER AS IT IS ON THE WIRE, BY NUMBERS ALONE
 

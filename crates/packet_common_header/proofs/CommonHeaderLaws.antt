@@ -8,7 +8,7 @@ use native.Mathlib.Omega.{arith}
 use lib.ListN.{length}
 use lib.Dec.{eqb, leb}
 use borrow.Author.Tests.{lt-ltb, ltb-true, le-leb, leb-true, eq-eqb, ne_eqb, eqb-true}
-use Rattle.wire_encoding.specs.Result.{ok}
+use Rattle.std.specs.Prelude.{Ok}
 use Rattle.wire_encoding.specs.BigEndian.{bytes_of}
 use Rattle.wire_encoding.proofs.Result.{same_value, held}
 use Rattle.packet_common_header.specs.declared.CommonHeader.{CommonHeader}
@@ -29,7 +29,7 @@ pub record CommonKnown (bytes : List ℕ) (c : CommonHeader) : Type 0 where
   pub long : 12 ≤ length bytes
   pub factor : 9 ≤ factor_of bytes
 
-pub common_known : (bytes : List ℕ) {c : CommonHeader} → read_common bytes ≡ ok c → CommonKnown bytes c
+pub common_known : (bytes : List ℕ) {c : CommonHeader} → read_common bytes ≡ Ok c → CommonKnown bytes c
 unfolding read_common
 common_known bytes h =
     let some = held (not (eqb (length bytes) 0)) _ _ h in
@@ -44,7 +44,7 @@ common_known bytes h =
     }
 
 -- the other way round: such bytes are read
-pub common_accepted : (bytes : List ℕ) → version_of bytes ≡ 0 → 12 ≤ length bytes → 9 ≤ factor_of bytes → read_common bytes ≡ ok (common_at bytes)
+pub common_accepted : (bytes : List ℕ) → version_of bytes ≡ 0 → 12 ≤ length bytes → 9 ≤ factor_of bytes → read_common bytes ≡ Ok (common_at bytes)
 unfolding read_common
 common_accepted bytes version long factor =
     rw (
@@ -86,7 +86,7 @@ widths_fit c w = rw (lt-ltb _ _ w.version, lt-ltb _ _ w.flow, lt-ltb _ _ w.desti
 
 -- where the numbers fit, the factor is not 0 and the size is right, it is written
 pub common_written : (c : CommonHeader) (n : ℕ) → common_fits c ≡ true → (c.header_length_factor ≡ 0 → ⊥) → n ≡ 12
-    → write_common c n ≡ ok (common_bytes c)
+    → write_common c n ≡ Ok (common_bytes c)
 unfolding write_common
 common_written c n fits factor exact = rw (fits, ne_eqb _ _ factor, eq-eqb _ _ exact)
 

@@ -1,7 +1,7 @@
 -- The draft's Common Header: Version (4 bits), TrafficClass (8), FlowID (20), NextHdr, HdrLen, PayloadLen (2 bytes), PathType,
 -- DT and DL, ST and SL (the host kinds), RSV (2 bytes); what reading one finds, and what writing one does.
-use Rattle.std.specs.Prelude.{ℕ, ◌+◌, ◌*◌, ◌-◌, ◌/◌, ◌%◌, ◌^◌, Bool, ◌&&◌, not, List, [], ◌∷◌, ◌++◌, length, get_or, ltb, leb, eqb}
-use Rattle.wire_encoding.specs.Result.{Result, ok, require, ◌>>◌, or_else}
+use Rattle.std.specs.Prelude.{ℕ, ◌+◌, ◌*◌, ◌-◌, ◌/◌, ◌%◌, ◌^◌, Bool, ◌&&◌, not, List, [], ◌∷◌, ◌++◌, length, get_or, ltb, leb, eqb, Result, Ok}
+use Rattle.wire_encoding.specs.Result.{require, ◌>>◌, or_else}
 use Rattle.wire_encoding.specs.BigEndian.{big_endian, bytes_of}
 use Rattle.errors.specs.declared.packet_error.DecodeError.{DecodeError}
 use Rattle.errors.specs.declared.packet_error.DecodeError.TheVariants as decode
@@ -50,20 +50,20 @@ abbrev pub factor_of : List ℕ → ℕ
 factor_of bytes = get_or bytes 5 0
 
 -- 01's order: empty, version not 0, under 12 bytes, factor under 9
-unfoldable pub read_common : List ℕ → Result DecodeError CommonHeader
+unfoldable pub read_common : List ℕ → Result CommonHeader DecodeError
 read_common bytes = do
   require (not (eqb (length bytes) 0)) decode.PacketEmptyOrTruncated
   require (eqb (version_of bytes) 0) (decode.UnsupportedVersion (version_of bytes))
   require (leb 12 (length bytes)) decode.PacketEmptyOrTruncated
   require (leb 9 (factor_of bytes)) (decode.InvalidHeaderLength (factor_of bytes))
-  ok (common_at bytes)
+  Ok (common_at bytes)
 
 -- every field zero
 unfoldable pub zero_common : CommonHeader
 zero_common = common_at []
 
 -- as it is handed back; all zero where it is refused
-unfoldable pub common_answer : Result DecodeError CommonHeader → CommonHeaderRead
+unfoldable pub common_answer : Result CommonHeader DecodeError → CommonHeaderRead
 common_answer r = record { answer = decoded_of r; header = or_else r zero_common }
 
 -- WRITING
@@ -85,9 +85,9 @@ unfoldable pub common_fits : CommonHeader → Bool
 common_fits c = fields_fit c.version c.flow_id c.destination_kind c.source_kind
 
 -- what a destination of this size then holds; 01's order: a number too wide, factor 0, another size
-unfoldable pub write_common : CommonHeader → ℕ → Result EncodeError (List ℕ)
+unfoldable pub write_common : CommonHeader → ℕ → Result (List ℕ) EncodeError
 write_common c size = do
   require (common_fits c) encode.NumberTooWide
   require (not (eqb c.header_length_factor 0)) encode.InvalidHeaderLength
   require (eqb size 12) encode.InadequateBufferSize
-  ok (common_bytes c)
+  Ok (common_bytes c)

@@ -10,7 +10,8 @@ use lib.ListN.{length, take, drop, length-append}
 use lib.Seq.{sets, sets-eq, take-length, length-take-le, length-sets}
 use lib.Dec.{leb, eqb}
 use borrow.Author.Tests.{leb-true, le-leb, eq-eqb, ne_eqb}
-use Rattle.wire_encoding.specs.Result.{ok, or_else}
+use Rattle.std.specs.Prelude.{Ok}
+use Rattle.wire_encoding.specs.Result.{or_else}
 use Rattle.wire_encoding.specs.BigEndian.{placed}
 use Rattle.wire_encoding.proofs.Result.{held}
 use Rattle.wire_encoding.proofs.Lists.{sets-append, sets-whole}
@@ -31,9 +32,9 @@ module _ (h : ScionHeaders) (path : List ℕ) (size : ℕ) where
   pub record Known : Type 0 where
     pub fits : common_fits (common_of h) ≡ true
     pub payload : h.payload_length ≤ 65535
-    pub result : write_headers h path size ≡ ok (header_bytes h path)
+    pub result : write_headers h path size ≡ Ok (header_bytes h path)
 
-  pub known : {written : List ℕ} → write_headers h path size ≡ ok written → Known
+  pub known : {written : List ℕ} → write_headers h path size ≡ Ok written → Known
   unfolding write_headers
   known e =
       let fits = held (common_fits (common_of h)) _ _ e in
@@ -46,7 +47,7 @@ module _ (h : ScionHeaders) (path : List ℕ) (size : ℕ) where
   -- and what lets them be written
   pub headers-written : common_fits (common_of h) ≡ true → (h.header_length_factor ≡ 0 → ⊥) → h.header_length_factor ≤ 255
       → h.payload_length ≤ 65535 → size ≡ headers_length h.address h.path_type (length path)
-      → write_headers h path size ≡ ok (header_bytes h path)
+      → write_headers h path size ≡ Ok (header_bytes h path)
   unfolding write_headers
   headers-written fits some factor payload exact =
       rw (fits, ne_eqb _ _ some, le-leb _ _ factor, le-leb _ _ payload, eq-eqb _ _ exact)

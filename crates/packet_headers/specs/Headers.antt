@@ -1,6 +1,6 @@
 -- All headers of a packet as bytes: the draft's Common Header, Address Header and path, one after the other; and what writing them does.
-use Rattle.std.specs.Prelude.{ℕ, ◌+◌, ◌-◌, ◌/◌, ◌^◌, min, cond, not, List, [], ◌++◌, length, leb, eqb}
-use Rattle.wire_encoding.specs.Result.{Result, ok, require, ◌>>◌}
+use Rattle.std.specs.Prelude.{ℕ, ◌+◌, ◌-◌, ◌/◌, ◌^◌, min, cond, not, List, [], ◌++◌, length, leb, eqb, Result, Ok}
+use Rattle.wire_encoding.specs.Result.{require, ◌>>◌}
 use Rattle.packet_common_header.specs.CommonHeader.{common_fits, common_bytes}
 use Rattle.packet_address_header.specs.AddressHeader.{kind_of, without_padding, address_length, address_bytes}
 use Rattle.packet_common_header.specs.declared.CommonHeader.{CommonHeader}
@@ -63,11 +63,11 @@ header_bytes h path = common_bytes (common_of h) ++ (address_bytes h.address ++ 
 
 -- what a destination of this size then holds; 01's order: a number too wide, factor 0, factor above 255, payload above 65,535, another
 -- size
-unfoldable pub write_headers : ScionHeaders → List ℕ → ℕ → Result EncodeError (List ℕ)
+unfoldable pub write_headers : ScionHeaders → List ℕ → ℕ → Result (List ℕ) EncodeError
 write_headers h path size = do
   require (common_fits (common_of h)) NumberTooWide
   require (not (eqb h.header_length_factor 0)) InvalidHeaderLength
   require (leb h.header_length_factor 255) HeaderTooLarge
   require (leb h.payload_length 65535) PayloadTooLarge
   require (eqb size (headers_length h.address h.path_type (length path))) InadequateBufferSize
-  ok (header_bytes h path)
+  Ok (header_bytes h path)

@@ -7,7 +7,7 @@ use native.Mathlib.Omega.{arith}
 use lib.Dec.{ltb}
 use lib.ListN.{length, get_or, set, length-append, length-set, get_or-append}
 use lib.Seq.{get_or-set_other}
-use Rattle.wire_encoding.specs.Result.{Result, ok}
+use Rattle.std.specs.Prelude.{Result, Ok}
 use Rattle.wire_encoding.specs.Bits.{with_bit}
 use Rattle.wire_encoding.proofs.Result.{same_value, held, stepped}
 use Rattle.wire_encoding.proofs.BigEndian.{number_by_get_or}
@@ -39,7 +39,7 @@ module _ (x y : List ℕ) (m n : PathMetaHeader) (r : Readable x m) (s : Readabl
   path_kept = path_of_lem y n s ∙ ap (λ (e : ℕ). record { meta_header = n; expiry = e }) same
 
   -- so a call that leaves the second keeps its promise
-  pub keeps : (call : Result PathError (List ℕ)) → call ≡ ok y → KeepsExpiry x call
+  pub keeps : (call : Result (List ℕ) PathError) → call ≡ Ok y → KeepsExpiry x call
   keeps call done left h = rw (← same_value (sym done ∙ h), done) (fits y n s, path_expires)
     where
       path_expires : (path_of 1 y).expiry ≡ (path_of 1 x).expiry
@@ -101,17 +101,17 @@ module _ (bytes : List ℕ) (m : PathMetaHeader) (r : Readable bytes m) (j v : �
   pub path_flags : path_of 1 after ≡ path_of 1 bytes
   path_flags = path_kept bytes after m m r readable_flags flags_expiry ∙ sym (path_of_lem bytes m r)
 
-  pub flags_keep : (call : Result PathError (List ℕ)) → call ≡ ok after → KeepsExpiry bytes call
+  pub flags_keep : (call : Result (List ℕ) PathError) → call ≡ Ok after → KeepsExpiry bytes call
   flags_keep = keeps bytes after m m r readable_flags flags_expiry
 
 -- of a hop field that is there
-hop_start_lem : (m : PathMetaHeader) (j : ℕ) {start : ℕ} → hop_field_offset m j ≡ ok start → hop_start m j ≡ start
+hop_start_lem : (m : PathMetaHeader) (j : ℕ) {start : ℕ} → hop_field_offset m j ≡ Ok start → hop_start m j ≡ start
 unfolding hop_field_offset
 hop_start_lem m j h = same_value (held (ltb j (hop_fields_count m)) _ _ h).1
 
 -- the record beside it stays
-pub path-alerted : (type : ℕ) (bytes : List ℕ) (m : PathMetaHeader) (j v : ℕ) {start : ℕ} → standard type bytes ≡ ok m
-    → hop_field_offset m j ≡ ok start → path_of type (set bytes start v) ≡ path_of type bytes
+pub path-alerted : (type : ℕ) (bytes : List ℕ) (m : PathMetaHeader) (j v : ℕ) {start : ℕ} → standard type bytes ≡ Ok m
+    → hop_field_offset m j ≡ Ok start → path_of type (set bytes start v) ≡ path_of type bytes
 path-alerted type bytes m j v read offset =
     rw (standard_type bytes type read, ← hop_start_lem m j offset) (path_flags bytes m (standard_readable bytes type read) j v)
 
@@ -122,6 +122,6 @@ alert_flags_keep_expiry bit on bytes j left h =
     let m = read.value in
     let found = stepped (hop_field_offset m j) _ read.then in
     let v : ℕ = with_bit bit on (get_or bytes found.value 0) in
-    let done : alerted bit on 1 bytes j ≡ ok (set bytes (hop_start m j) v) =
-    h ∙ sym found.then ∙ ap (λ (start : ℕ). ok (set bytes start v)) (sym (hop_start_lem m j found.first)) in
+    let done : alerted bit on 1 bytes j ≡ Ok (set bytes (hop_start m j) v) =
+    h ∙ sym found.then ∙ ap (λ (start : ℕ). Ok (set bytes start v)) (sym (hop_start_lem m j found.first)) in
     flags_keep bytes m (standard_readable bytes 1 read.first) j v (alerted bit on 1 bytes j) done left h

@@ -8,7 +8,8 @@ use native.Mathlib.Omega.{arith}
 use lib.Dec.{leb, ltb, eqb}
 use lib.ListN.{length}
 use borrow.Author.Tests.{leb-true, ltb-true, eqb-true, ne_eqb, le-leb}
-use Rattle.wire_encoding.specs.Result.{Result, ok, refused, or_else, refusing}
+use Rattle.std.specs.Prelude.{Result, Ok, Err}
+use Rattle.wire_encoding.specs.Result.{or_else, refusing}
 use Rattle.wire_encoding.specs.BigEndian.{big_endian, room}
 use Rattle.wire_encoding.proofs.Result.{same_value, held, stepped, refusing_ok, either, refused_alike}
 use Rattle.path_meta_header.specs.MetaHeader.{meta_of, info_fields_count, hop_fields_count, path_length, read_meta, info_field_offset, hop_field_offset}
@@ -37,8 +38,8 @@ use Rattle.path_meta_header.proofs.Segment as segments
 -- A RECORD THAT WAS READ
 
 -- its header is the one that was read, and its expiry the rule's
-pub by_record : (bytes : List ℕ) {path : StandardPath} → read_record bytes ≡ ok path
-    → (read_path bytes ≡ ok path.meta_header) × (path ≡ path_under bytes path.meta_header)
+pub by_record : (bytes : List ℕ) {path : StandardPath} → read_record bytes ≡ Ok path
+    → (read_path bytes ≡ Ok path.meta_header) × (path ≡ path_under bytes path.meta_header)
 unfolding read_record
 by_record bytes h =
     let read = stepped (read_path bytes) _ h in
@@ -48,23 +49,23 @@ by_record bytes h =
 
 -- a caller of `StandardPath::decode`
 module _ (bytes : List ℕ) {read : PathRead} (is : read ≡ path_read (read_record bytes)) where
-  pub record_ok : read.answer ≡ decoded.Accepted → read_record bytes ≡ ok read.path
+  pub record_ok : read.answer ≡ decoded.Accepted → read_record bytes ≡ Ok read.path
   unfolding path_read
   record_ok h = told.decoded_ok (read_record bytes) no_path (ap (λ (x : PathRead). x.answer) is) (ap (λ (x : PathRead). x.path) is) h
 
-  pub path_refused : {error : DecodeError} → read.answer ≡ decoded.Refused error → read_record bytes ≡ refused error
+  pub path_refused : {error : DecodeError} → read.answer ≡ decoded.Refused error → read_record bytes ≡ Err error
   unfolding path_read
   path_refused h = told.decoded_refused (read_record bytes) (ap (λ (x : PathRead). x.answer) is) h
 
 -- of `DataplanePath::decode`
-module _ (r : Result DecodeError Extent) {read : DataplaneRead} (is : read ≡ dataplane_read r) where
-  pub read_ok : read.answer ≡ decoded.Accepted → r ≡ ok (record { path = read.path; length = read.length })
+module _ (r : Result Extent DecodeError) {read : DataplaneRead} (is : read ≡ dataplane_read r) where
+  pub read_ok : read.answer ≡ decoded.Accepted → r ≡ Ok (record { path = read.path; length = read.length })
   unfolding dataplane_read
   read_ok h =
       told.decoded_ok r (unread 0) (ap (λ (x : DataplaneRead). x.answer) is)
       (ap (λ (x : DataplaneRead). record { path = x.path; length = x.length }) is) h
 
-  pub read_refused : {error : DecodeError} → read.answer ≡ decoded.Refused error → r ≡ refused error
+  pub read_refused : {error : DecodeError} → read.answer ≡ decoded.Refused error → r ≡ Err error
   unfolding dataplane_read
   read_refused h = told.decoded_refused r (ap (λ (x : DataplaneRead). x.answer) is) h
 
@@ -77,7 +78,7 @@ no_path_lem : (type : ℕ) (bytes : List ℕ) → (type ≡ 1 → ⊥) → path_
 unfolding path_of dataplane_read read_dataplane
 no_path_lem type bytes other = rw (ne_eqb type 1 other, path_of) (go (eqb type 0))
   where
-    go : (z : Bool) → (dataplane_read (cond z (ok (unread 0)) (ok (unread (length bytes))))).path ≡ no_path
+    go : (z : Bool) → (dataplane_read (cond z (Ok (unread 0)) (Ok (unread (length bytes))))).path ≡ no_path
     go true = refl
     go false = refl
 
@@ -86,27 +87,27 @@ unfolding path_of dataplane_read
 no_record type bytes = (λ error h. rw (h, path_of), no_path_lem type bytes)
 
 -- of a call that leaves the bytes as they are
-module _ {A : Type 0} (path : StandardPath) (r : Result PathError A) {call : PathAnswer} (is : call ≡ path_answer path r) where
-  pub answer_refused : {error : PathError} → call.answer ≡ answer.Refused error → r ≡ refused error
+module _ {A : Type 0} (path : StandardPath) (r : Result A PathError) {call : PathAnswer} (is : call ≡ path_answer path r) where
+  pub answer_refused : {error : PathError} → call.answer ≡ answer.Refused error → r ≡ Err error
   unfolding path_answer
   answer_refused h = told.answer_refused r (ap (λ (x : PathAnswer). x.answer) is) h
 
   -- where it is carried out there is a value, and the record is the path's
-  pub answer_value_lem : (zero : A) → call.answer ≡ answer.Accepted → r ≡ ok (or_else r zero)
+  pub answer_value_lem : (zero : A) → call.answer ≡ answer.Accepted → r ≡ Ok (or_else r zero)
   unfolding path_answer
   answer_value_lem zero h = told.answer_ok r zero (ap (λ (x : PathAnswer). x.answer) is) refl h
 
   pub answer_path : (zero : A) → call.answer ≡ answer.Accepted → call.path ≡ path
   unfolding path_answer
-  answer_path zero h = ap (λ (x : PathAnswer). x.path) is ∙ ap (λ (x : Result PathError A). beside path x) (answer_value_lem zero h)
+  answer_path zero h = ap (λ (x : PathAnswer). x.path) is ∙ ap (λ (x : Result A PathError). beside path x) (answer_value_lem zero h)
 
 -- of a view
-module _ (path : StandardPath) (r : Result PathError Part) {call : Located} (is : call ≡ located path r) where
-  pub located_ok : call.answer ≡ answer.Accepted → r ≡ ok call.part
+module _ (path : StandardPath) (r : Result Part PathError) {call : Located} (is : call ≡ located path r) where
+  pub located_ok : call.answer ≡ answer.Accepted → r ≡ Ok call.part
   unfolding located
   located_ok h = told.answer_ok r nowhere (ap (λ (x : Located). x.answer) is) (ap (λ (x : Located). x.part) is) h
 
-  pub located_refused : {error : PathError} → call.answer ≡ answer.Refused error → r ≡ refused error
+  pub located_refused : {error : PathError} → call.answer ≡ answer.Refused error → r ≡ Err error
   unfolding located
   located_refused h = told.answer_refused r (ap (λ (x : Located). x.answer) is) h
 
@@ -125,7 +126,7 @@ pub record Readable (bytes : List ℕ) (m : PathMetaHeader) : Type 0 where
 
 module _ (bytes : List ℕ) {m : PathMetaHeader} where
   -- a path that is read is readable
-  pub readable : read_path bytes ≡ ok m → Readable bytes m
+  pub readable : read_path bytes ≡ Ok m → Readable bytes m
   unfolding read_path read_meta
   readable h =
       let header = stepped (read_meta bytes) _ h in
@@ -139,24 +140,24 @@ module _ (bytes : List ℕ) {m : PathMetaHeader} where
       })
 
   -- and so is one that a call on standard paths goes on with, and its type is 1
-  pub standard_type : (type : ℕ) → standard type bytes ≡ ok m → type ≡ 1
+  pub standard_type : (type : ℕ) → standard type bytes ≡ Ok m → type ≡ 1
   unfolding standard
   standard_type type h = eqb-true type 1 (held (eqb type 1) _ _ (stepped (refusing Decode (read_dataplane type bytes)) _ h).then).0
 
-  pub standard_readable : (type : ℕ) → standard type bytes ≡ ok m → Readable bytes m
+  pub standard_readable : (type : ℕ) → standard type bytes ≡ Ok m → Readable bytes m
   unfolding standard read_dataplane
   standard_readable type h =
       let read = stepped (refusing Decode (read_dataplane 1 bytes)) _ (rw (standard_type type h) at h) in
       let path = stepped (read_record bytes) _ (refusing_ok Decode (read_dataplane 1 bytes) read.first) in
       let header = ap (λ (r : Extent). r.path.meta_header) (same_value path.then) ∙ same_value read.then in
-      readable ((by_record bytes path.first).0 ∙ ap ok header)
+      readable ((by_record bytes path.first).0 ∙ ap Ok header)
 
 -- it has fields, so its expiry is found
 pub expiry_found_lem : (bytes : List ℕ) (m : PathMetaHeader) → Readable bytes m → path_expiry_or_zero bytes m ≡ path_expiry bytes m
 expiry_found_lem bytes m r = path_found bytes m (omega (arith, r.sound_meta.info)) r.whole
 
 -- one that is read by its record is readable too
-pub record_readable : (bytes : List ℕ) {path : StandardPath} → read_record bytes ≡ ok path → Readable bytes path.meta_header
+pub record_readable : (bytes : List ℕ) {path : StandardPath} → read_record bytes ≡ Ok path → Readable bytes path.meta_header
 record_readable bytes h = readable bytes (by_record bytes h).0
 
 -- the other way round: such a path is read
@@ -165,15 +166,15 @@ module _ (bytes : List ℕ) (m : PathMetaHeader) (r : Readable bytes m) where
   unfolding path_length
   four = omega (arith, r.whole)
 
-  pub path_read_lem : read_path bytes ≡ ok m
+  pub path_read_lem : read_path bytes ≡ Ok m
   unfolding read_path read_meta room
   path_read_lem = rw (le-leb 4 (length bytes) four, ← r.word, sound_checked m r.sound_meta, le-leb _ _ r.whole)
 
-  pub record_read : read_record bytes ≡ ok (path_under bytes m)
+  pub record_read : read_record bytes ≡ Ok (path_under bytes m)
   unfolding read_record
   record_read = rw path_read_lem
 
-  pub standard_read : standard 1 bytes ≡ ok m
+  pub standard_read : standard 1 bytes ≡ Ok m
   unfolding standard read_dataplane
   standard_read = rw record_read
 
@@ -189,7 +190,7 @@ module _ (bytes : List ℕ) (m : PathMetaHeader) (r : Readable bytes m) where
 
 -- what a caller of `standard` knows
 module _ (type : ℕ) (bytes : List ℕ) where
-  pub standard-path : {m : PathMetaHeader} → standard type bytes ≡ ok m → path_of type bytes ≡ path_under bytes m
+  pub standard-path : {m : PathMetaHeader} → standard type bytes ≡ Ok m → path_of type bytes ≡ path_under bytes m
   standard-path {m} h = rw (standard_type bytes type h) (path_of_lem bytes m (standard_readable bytes type h))
 
   -- its record is that of the path
@@ -199,10 +200,10 @@ module _ (type : ℕ) (bytes : List ℕ) where
 
   -- and holds the header that was read
   pub answer_ok : {call : PathAnswer} → call ≡ path_answer (path_of type bytes) (standard type bytes) → call.answer ≡ answer.Accepted
-      → standard type bytes ≡ ok call.path.meta_header
+      → standard type bytes ≡ Ok call.path.meta_header
   answer_ok is h =
       let some = answer_value_lem (path_of type bytes) (standard type bytes) is (meta_of 0) h in
-      some ∙ ap ok (ap (λ (p : StandardPath). p.meta_header) (sym (standard-path some) ∙ sym (record_is is h)))
+      some ∙ ap Ok (ap (λ (p : StandardPath). p.meta_header) (sym (standard-path some) ∙ sym (record_is is h)))
 
 -- WHERE THE PARTS LIE
 
@@ -213,7 +214,7 @@ module _ (bytes : List ℕ) where
   length_inside type = go (eqb type 0) (eqb type 1)
     where
       go : (z o : Bool)
-          → (dataplane_read (cond z (ok (unread 0)) (cond o (read_standard bytes) (ok (unread (length bytes)))))).length ≤ length bytes
+          → (dataplane_read (cond z (Ok (unread 0)) (cond o (read_standard bytes) (Ok (unread (length bytes)))))).length ≤ length bytes
       go true o = omega arith
       go false true =
           either (λ (x : Extent). x.length ≤ length bytes) (read_standard bytes) (unread 0) (omega arith)
@@ -228,7 +229,7 @@ pub record Inside (size n : ℕ) (v : Part) : Type 0 where
   pub sized : v.len ≡ size
 
 module _ (bytes : List ℕ) (type : ℕ) where
-  info_view : (k : ℕ) (v : Part) → info_field_in type bytes k ≡ ok v → Inside 8 (length bytes) v
+  info_view : (k : ℕ) (v : Part) → info_field_in type bytes k ≡ Ok v → Inside 8 (length bytes) v
   unfolding info_field_in info_field_offset path_length
   info_view k v h =
       let read = stepped (standard type bytes) _ h in
@@ -242,7 +243,7 @@ module _ (bytes : List ℕ) (type : ℕ) where
         sized = refl;
       })
 
-  pub hop_view : (j : ℕ) (v : Part) → hop_field_in type bytes j ≡ ok v → Inside 12 (length bytes) v
+  pub hop_view : (j : ℕ) (v : Part) → hop_field_in type bytes j ≡ Ok v → Inside 12 (length bytes) v
   unfolding hop_field_in hop_field_offset path_length
   hop_view j v h =
       let read = stepped (standard type bytes) _ h in
@@ -259,10 +260,10 @@ module _ (bytes : List ℕ) (type : ℕ) where
   -- a hop field that is there: the header that was read, and where the field starts under it
   pub record HopFound (j : ℕ) (v : Part) : Type 0 where
     pub header : PathMetaHeader
-    pub read : standard type bytes ≡ ok header
-    pub offset : hop_field_offset header j ≡ ok v.start
+    pub read : standard type bytes ≡ Ok header
+    pub offset : hop_field_offset header j ≡ Ok v.start
 
-  pub hop_found : (j : ℕ) {v : Part} → hop_field_in type bytes j ≡ ok v → HopFound j v
+  pub hop_found : (j : ℕ) {v : Part} → hop_field_in type bytes j ≡ Ok v → HopFound j v
   unfolding hop_field_in
   hop_found j h =
       let read = stepped (standard type bytes) _ h in
@@ -270,17 +271,17 @@ module _ (bytes : List ℕ) (type : ℕ) where
       record {
         header = read.value;
         read = read.first;
-        offset = found.first ∙ ap ok (ap (λ (p : Part). p.start) (same_value found.then));
+        offset = found.first ∙ ap Ok (ap (λ (p : Part). p.start) (same_value found.then));
       }
 
   -- and one that isn't: a flag of it can't be set
-  pub alerted_refused : (bit : ℕ) (on : Bool) (j : ℕ) {error : PathError} → hop_field_in type bytes j ≡ refused error
-      → alerted bit on type bytes j ≡ refused error
+  pub alerted_refused : (bit : ℕ) (on : Bool) (j : ℕ) {error : PathError} → hop_field_in type bytes j ≡ Err error
+      → alerted bit on type bytes j ≡ Err error
   unfolding hop_field_in alerted
   alerted_refused bit on j h =
       refused_alike (λ m. hop_field_offset m j) (λ m start. record { start = start; len = 12 }) _ (standard type bytes) h
 
-  segment_view : (k : ℕ) (v : Fields) → segment_in type bytes k ≡ ok v → Among bytes v.info × Among bytes v.hops
+  segment_view : (k : ℕ) (v : Fields) → segment_in type bytes k ≡ Ok v → Among bytes v.info × Among bytes v.hops
   unfolding segment_in
   segment_view k v h =
       let read = stepped (standard type bytes) _ h in

@@ -1,6 +1,6 @@
 -- The calls on a path of any type: a type byte beside the bytes. Reading comes first, then each call's own order.
-use Rattle.std.specs.Prelude.{ℕ, ◌+◌, ◌≤◌, ◌≡◌, Bool, cond, List, length, get_or, set, ltb, eqb}
-use Rattle.wire_encoding.specs.Result.{Result, ok, refused, require, ◌>>◌, ◌>>=◌, mapped, or_else, refusing}
+use Rattle.std.specs.Prelude.{ℕ, ◌+◌, ◌≤◌, ◌≡◌, Bool, cond, List, length, get_or, set, ltb, eqb, Result, Ok, Err}
+use Rattle.wire_encoding.specs.Result.{require, ◌>>◌, ◌>>=◌, mapped, or_else, refusing}
 use Rattle.wire_encoding.specs.BigEndian.{part}
 use Rattle.wire_encoding.specs.Bits.{with_bit}
 use Rattle.path_meta_header.specs.MetaHeader.{meta_of, info_fields_count, path_length, info_field_offset, hop_field_offset}
@@ -32,16 +32,16 @@ abbrev pub unread : ℕ → Extent
 unread n = record { path = no_path; length = n }
 
 -- a standard path is as long as its header says
-abbrev pub read_standard : List ℕ → Result DecodeError Extent
+abbrev pub read_standard : List ℕ → Result Extent DecodeError
 read_standard bytes = do
   path ← read_record bytes
-  ok (record { path = path; length = path_length path.meta_header })
+  Ok (record { path = path; length = path_length path.meta_header })
 
 -- type 0 is empty, 1 standard, any other opaque: all the bytes there are
-unfoldable pub read_dataplane : ℕ → List ℕ → Result DecodeError Extent
-read_dataplane type bytes = cond (eqb type 0) (ok (unread 0)) (cond (eqb type 1) (read_standard bytes) (ok (unread (length bytes))))
+unfoldable pub read_dataplane : ℕ → List ℕ → Result Extent DecodeError
+read_dataplane type bytes = cond (eqb type 0) (Ok (unread 0)) (cond (eqb type 1) (read_standard bytes) (Ok (unread (length bytes))))
 
-unfoldable pub dataplane_read : Result DecodeError Extent → DataplaneRead
+unfoldable pub dataplane_read : Result Extent DecodeError → DataplaneRead
 dataplane_read r =
     let found = or_else r (unread 0) in
     record { answer = decoded_of r; path = found.path; length = found.length }
@@ -54,79 +54,79 @@ path_of type bytes = (dataplane_read (read_dataplane type bytes)).path
 abbrev pub NoRecord : Type 0
 NoRecord =
     (type : ℕ) (bytes : List ℕ)
-    → ((error : DecodeError) → read_dataplane type bytes ≡ refused error → path_of type bytes ≡ no_path)
+    → ((error : DecodeError) → read_dataplane type bytes ≡ Err error → path_of type bytes ≡ no_path)
     × ((type ≡ 1 → ⊥) → path_of type bytes ≡ no_path)
 
 -- CALLS ON STANDARD PATHS: reading, then 8 for every other type, then the call
 
-unfoldable pub standard : ℕ → List ℕ → Result PathError PathMetaHeader
+unfoldable pub standard : ℕ → List ℕ → Result PathMetaHeader PathError
 standard type bytes = do
   read ← refusing Decode (read_dataplane type bytes)
   require (eqb type 1) NoSuchField
-  ok read.path.meta_header
+  Ok read.path.meta_header
 
 -- the header that reading a standard path hands back
 unfoldable pub meta_header_of : List ℕ → PathMetaHeader
 meta_header_of bytes = or_else (standard 1 bytes) (meta_of 0)
 
 -- a call that leaves the bytes as they are: its answer, and the record of the path
-unfoldable pub path_answer : {A : Type 0} → StandardPath → Result PathError A → PathAnswer
+unfoldable pub path_answer : {A : Type 0} → StandardPath → Result A PathError → PathAnswer
 path_answer path r = record { answer = answer_of r; path = beside path r }
 
 -- "a record fitting the bytes it leaves": reading these bytes is accepted with that record, and its expiry is the rule's on them
 pub record Fits (left : List ℕ) (path : StandardPath) : Type 0 where
-  pub read : read_record left ≡ ok path
+  pub read : read_record left ≡ Ok path
   pub expires : path.expiry ≡ path_expiry left path.meta_header
 
 -- a theorem: the record of a standard path that was read, which goes beside all that is found of it, fits its bytes
 abbrev pub RecordFits : Type 0
-RecordFits = (bytes : List ℕ) (m : PathMetaHeader) → standard 1 bytes ≡ ok m → Fits bytes (path_of 1 bytes)
+RecordFits = (bytes : List ℕ) (m : PathMetaHeader) → standard 1 bytes ≡ Ok m → Fits bytes (path_of 1 bytes)
 
 -- a theorem: it has an expiry, so that a stored 0 is of no standard path
 abbrev pub RecordExpires : Type 0
-RecordExpires = (bytes : List ℕ) (m : PathMetaHeader) → standard 1 bytes ≡ ok m → least_expiry ≤ (path_of 1 bytes).expiry
+RecordExpires = (bytes : List ℕ) (m : PathMetaHeader) → standard 1 bytes ≡ Ok m → least_expiry ≤ (path_of 1 bytes).expiry
 
 -- CALLS THAT WRITE: what the lent bytes then hold; a refusal changes nothing
-abbrev pub contents : Result PathError (List ℕ) → List ℕ → List ℕ
+abbrev pub contents : Result (List ℕ) PathError → List ℕ → List ℕ
 contents r lent = or_else r lent
 
 -- the record of the path that such a call leaves: what reading hands back of those bytes; zeros where it is refused
-abbrev pub path_left : ℕ → Result PathError (List ℕ) → StandardPath
+abbrev pub path_left : ℕ → Result (List ℕ) PathError → StandardPath
 path_left type r = or_else (mapped (path_of type) r) no_path
 
-unfoldable pub written_answer : ℕ → Result PathError (List ℕ) → PathAnswer
+unfoldable pub written_answer : ℕ → Result (List ℕ) PathError → PathAnswer
 written_answer type r = record { answer = answer_of r; path = path_left type r }
 
 -- what is promised of each call that writes, where a standard path is changed or written: the record fits, and the expiry is still that
 -- of the path that was read
-abbrev pub KeepsExpiry : List ℕ → Result PathError (List ℕ) → Type 0
-KeepsExpiry bytes call = (left : List ℕ) → call ≡ ok left → Fits left (path_left 1 call) × ((path_left 1 call).expiry ≡ (path_of 1 bytes).expiry)
+abbrev pub KeepsExpiry : List ℕ → Result (List ℕ) PathError → Type 0
+KeepsExpiry bytes call = (left : List ℕ) → call ≡ Ok left → Fits left (path_left 1 call) × ((path_left 1 call).expiry ≡ (path_of 1 bytes).expiry)
 
 -- VIEWS: where a field lies; 8 where there is none
 
-unfoldable pub info_field_in : ℕ → List ℕ → ℕ → Result PathError Part
+unfoldable pub info_field_in : ℕ → List ℕ → ℕ → Result Part PathError
 info_field_in type bytes k = do
   m ← standard type bytes
   start ← info_field_offset m k
-  ok (record { start = start; len = info_field_length })
+  Ok (record { start = start; len = info_field_length })
 
-unfoldable pub hop_field_in : ℕ → List ℕ → ℕ → Result PathError Part
+unfoldable pub hop_field_in : ℕ → List ℕ → ℕ → Result Part PathError
 hop_field_in type bytes j = do
   m ← standard type bytes
   start ← hop_field_offset m j
-  ok (record { start = start; len = hop_field_length })
+  Ok (record { start = start; len = hop_field_length })
 
-unfoldable pub segment_in : ℕ → List ℕ → ℕ → Result PathError Fields
+unfoldable pub segment_in : ℕ → List ℕ → ℕ → Result Fields PathError
 segment_in type bytes k = do
   m ← standard type bytes
   require (ltb k (info_fields_count m)) NoSuchField
-  ok (segment_at m k)
+  Ok (segment_at m k)
 
 -- what is handed back of one, beside the record of the path
-unfoldable pub located : StandardPath → Result PathError Part → Located
+unfoldable pub located : StandardPath → Result Part PathError → Located
 located path r = record { answer = answer_of r; path = beside path r; part = or_else r nowhere }
 
-unfoldable pub segment : StandardPath → Result PathError Fields → Segment
+unfoldable pub segment : StandardPath → Result Fields PathError → Segment
 segment path r =
     let found = or_else r (record { info = nowhere; hops = nowhere }) in
     record { answer = answer_of r; path = beside path r; info_field = found.info; hop_fields = found.hops }
@@ -142,17 +142,17 @@ Among bytes p = p.start + p.len ≤ length bytes
 abbrev pub ViewsInside : Type 0
 ViewsInside =
     (type : ℕ) (bytes : List ℕ) (i : ℕ)
-    → ((p : Part) → info_field_in type bytes i ≡ ok p → Among bytes p)
-    × ((p : Part) → hop_field_in type bytes i ≡ ok p → Among bytes p)
-    × ((s : Fields) → segment_in type bytes i ≡ ok s → Among bytes s.info × Among bytes s.hops)
+    → ((p : Part) → info_field_in type bytes i ≡ Ok p → Among bytes p)
+    × ((p : Part) → hop_field_in type bytes i ≡ Ok p → Among bytes p)
+    × ((s : Fields) → segment_in type bytes i ≡ Ok s → Among bytes s.info × Among bytes s.hops)
 
 -- ALERT FLAGS of hop field j: bit 1 ingress, bit 0 egress. The one bit changes; 8 where there is no such hop field
 
-unfoldable pub alerted : ℕ → Bool → ℕ → List ℕ → ℕ → Result PathError (List ℕ)
+unfoldable pub alerted : ℕ → Bool → ℕ → List ℕ → ℕ → Result (List ℕ) PathError
 alerted bit on type bytes j = do
   m ← standard type bytes
   flags ← hop_field_offset m j
-  ok (set bytes flags (with_bit bit on (get_or bytes flags 0)))
+  Ok (set bytes flags (with_bit bit on (get_or bytes flags 0)))
 
 -- a theorem: the record of the path that is left fits it, and has the expiry of the path that was read
 abbrev pub AlertFlagsKeepExpiry : Type 0

@@ -1,6 +1,6 @@
 -- The draft's SCION Path Type: a Path Meta Header, its Info Fields, its Hop Fields; and what reading one finds.
-use Rattle.std.specs.Prelude.{Bool, ◌&&◌, List, ℕ, length, leb, eqb}
-use Rattle.wire_encoding.specs.Result.{Result, ok, require, ◌>>◌, ◌>>=◌, mapped, or_else}
+use Rattle.std.specs.Prelude.{Bool, ◌&&◌, List, ℕ, length, leb, eqb, Result, Ok}
+use Rattle.wire_encoding.specs.Result.{require, ◌>>◌, ◌>>=◌, mapped, or_else}
 use Rattle.path_meta_header.specs.MetaHeader.{meta_of, info_fields_count, info_start, hop_start, path_length, read_meta}
 use Rattle.path_meta_header.specs.declared.PathMetaHeader.{PathMetaHeader}
 use Rattle.path_fields.specs.Fields.{info_field_at, hop_field_at, peering}
@@ -15,11 +15,11 @@ use Rattle.path.specs.declared.standard.StandardPath.{StandardPath}
 use Rattle.path.specs.declared.standard.PathRead.{PathRead}
 
 -- reading the path that begins bytes: its meta header, then 8 · I + 12 · N bytes more; the bytes after it are no part of it
-unfoldable pub read_path : List ℕ → Result DecodeError PathMetaHeader
+unfoldable pub read_path : List ℕ → Result PathMetaHeader DecodeError
 read_path bytes = do
   m ← read_meta bytes
   require (leb (path_length m) (length bytes)) PacketEmptyOrTruncated
-  ok m
+  Ok m
 
 -- info field k and hop field j of a path's bytes
 abbrev pub info_at : List ℕ → ℕ → InfoField
@@ -45,15 +45,15 @@ abbrev pub no_path : StandardPath
 no_path = record { meta_header = meta_of 0; expiry = 0 }
 
 -- what reading finds is its record
-unfoldable pub read_record : List ℕ → Result DecodeError StandardPath
+unfoldable pub read_record : List ℕ → Result StandardPath DecodeError
 read_record bytes = do
   m ← read_path bytes
-  ok (path_under bytes m)
+  Ok (path_under bytes m)
 
 -- what a reader hands back
-unfoldable pub path_read : Result DecodeError StandardPath → PathRead
+unfoldable pub path_read : Result StandardPath DecodeError → PathRead
 path_read r = record { answer = decoded_of r; path = or_else r no_path }
 
 -- the record beside what is found of the path: zeros where that is refused
-abbrev pub beside : {A : Type 0} → StandardPath → Result PathError A → StandardPath
+abbrev pub beside : {A : Type 0} → StandardPath → Result A PathError → StandardPath
 beside path r = or_else (mapped (λ _. path) r) no_path

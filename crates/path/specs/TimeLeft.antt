@@ -1,7 +1,7 @@
 -- The time left of a path's record: no bytes are looked at.
-use Rattle.std.specs.Prelude.{ℕ, ℤ, pos, leb}
+use Rattle.std.specs.Prelude.{ℕ, ℤ, pos, leb, Result, Ok}
 use Rattle.std.proofs.Math.IntN.{sub_ℕ}
-use Rattle.wire_encoding.specs.Result.{Result, ok, require, ◌>>◌, or_else}
+use Rattle.wire_encoding.specs.Result.{require, ◌>>◌, or_else}
 use Rattle.errors.specs.Errors.{answer_of}
 use Rattle.errors.specs.declared.path_error.PathError.{PathError}
 use Rattle.errors.specs.declared.path_error.PathError.TheVariants.{NumberTooWide}
@@ -15,12 +15,12 @@ abbrev pub largest_time : ℕ
 largest_time = 9000000000000
 
 -- the stored expiry less a time, which may be below zero; 10 for an expiry above the largest that a path can have, or a time above its bound
-unfoldable pub time_left_of : StandardPath → ℕ → Result PathError ℤ
+unfoldable pub time_left_of : StandardPath → ℕ → Result ℤ PathError
 time_left_of path now = do
   require (leb path.expiry largest_expiry) NumberTooWide
   require (leb now largest_time) NumberTooWide
-  ok (sub_ℕ path.expiry now)
+  Ok (sub_ℕ path.expiry now)
 
 -- what is handed back, beside the record: all zero where it is refused
-unfoldable pub time_left_found : StandardPath → Result PathError ℤ → TimeLeft
+unfoldable pub time_left_found : StandardPath → Result ℤ PathError → TimeLeft
 time_left_found path r = record { answer = answer_of r; path = beside path r; ms = or_else r (pos 0) }

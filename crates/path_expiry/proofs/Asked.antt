@@ -4,7 +4,8 @@ use Prim.Native.Nat.{ℕ, ◌≤◌}
 use mathlib.Core.Path.{◌≡◌, refl, ap}
 use mathlib.Core.List.{List}
 use borrow.Author.Tests.{le-leb}
-use Rattle.wire_encoding.specs.Result.{Result, ok, refused, mapped, and_then}
+use Rattle.std.specs.Prelude.{Result, Ok, Err}
+use Rattle.wire_encoding.specs.Result.{mapped, and_then}
 use Rattle.path_meta_header.specs.declared.PathMetaHeader.{PathMetaHeader}
 use Rattle.errors.specs.declared.path_error.PathError.{PathError}
 use Rattle.path_least_expiry.specs.Expiry.{path_expiry, largest_expiry}
@@ -16,12 +17,12 @@ use Rattle.path.proofs.Reading.{standard-path}
 use Rattle.path_expiry.specs.Expiry.{expiry_in, time_left_in, AskedOfTheRecord}
 
 -- a path that was read
-module _ (type : ℕ) (bytes : List ℕ) (m : PathMetaHeader) (read : standard type bytes ≡ ok m) where
+module _ (type : ℕ) (bytes : List ℕ) (m : PathMetaHeader) (read : standard type bytes ≡ Ok m) where
   -- its record has its expiry
   pub stored : (path_of type bytes).expiry ≡ path_expiry bytes m
   stored = ap (λ (path : StandardPath). path.expiry) (standard-path type bytes read)
 
-  pub expiry_stored : expiry_in type bytes ≡ ok (path_of type bytes).expiry
+  pub expiry_stored : expiry_in type bytes ≡ Ok (path_of type bytes).expiry
   unfolding expiry_in
   expiry_stored = rw (read, stored)
 
@@ -31,19 +32,19 @@ module _ (type : ℕ) (bytes : List ℕ) (m : PathMetaHeader) (read : standard t
   time_left_stored bounded now = rw (expiry_stored, le-leb _ _ bounded) refl
 
 -- one that was not
-neither : (type : ℕ) (bytes : List ℕ) {error : PathError} → standard type bytes ≡ refused error
-    → (expiry_in type bytes ≡ refused error) × ((now : ℕ) → time_left_in type bytes now ≡ refused error)
+neither : (type : ℕ) (bytes : List ℕ) {error : PathError} → standard type bytes ≡ Err error
+    → (expiry_in type bytes ≡ Err error) × ((now : ℕ) → time_left_in type bytes now ≡ Err error)
 unfolding expiry_in time_left_in
 neither type bytes read = (rw read, λ now. rw read)
 
 pub asked_of_the_record : AskedOfTheRecord
 asked_of_the_record type bytes small = go (standard type bytes) refl
   where
-    go : (r : Result PathError PathMetaHeader) → standard type bytes ≡ r
+    go : (r : Result PathMetaHeader PathError) → standard type bytes ≡ r
         → let found = mapped (λ _. path_of type bytes) (standard type bytes) in
         (expiry_in type bytes ≡ mapped (λ (path : StandardPath). path.expiry) found)
         × ((now : ℕ) → time_left_in type bytes now ≡ and_then found (λ path. time_left_of path now))
-    go (ok m) read =
+    go (Ok m) read =
         let bounded : (path_of type bytes).expiry ≤ largest_expiry = rw (stored type bytes m read) (none_above bytes m small) in
         rw read (expiry_stored type bytes m read, time_left_stored type bytes m read bounded)
-    go (refused error) read = rw read (neither type bytes read)
+    go (Err error) read = rw read (neither type bytes read)

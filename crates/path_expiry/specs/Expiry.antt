@@ -1,7 +1,7 @@
 -- The expiry of a path and of its segments, and the time left, by the path's bytes: reading, 8, 10.
-use Rattle.std.specs.Prelude.{ℕ, ◌<◌, ◌≡◌, List, get_or, ℤ, ltb, leb}
+use Rattle.std.specs.Prelude.{ℕ, ◌<◌, ◌≡◌, List, get_or, ℤ, ltb, leb, Result, Ok}
 use Rattle.std.proofs.Math.IntN.{sub_ℕ}
-use Rattle.wire_encoding.specs.Result.{Result, ok, require, and_then, ◌>>◌, ◌>>=◌, mapped, or_else}
+use Rattle.wire_encoding.specs.Result.{require, and_then, ◌>>◌, ◌>>=◌, mapped, or_else}
 use Rattle.path_meta_header.specs.MetaHeader.{info_fields_count}
 use Rattle.errors.specs.Errors.{answer_of}
 use Rattle.errors.specs.declared.path_error.PathError.{PathError}
@@ -14,23 +14,23 @@ use Rattle.path.specs.declared.standard.StandardPath.{StandardPath}
 use Rattle.path_expiry.specs.declared.Expiry.{Expiry}
 
 -- of segment k; 8 where there is none
-unfoldable pub segment_expiry_in : ℕ → List ℕ → ℕ → Result PathError ℕ
+unfoldable pub segment_expiry_in : ℕ → List ℕ → ℕ → Result ℕ PathError
 segment_expiry_in type bytes k = do
   m ← standard type bytes
   require (ltb k (info_fields_count m)) NoSuchField
-  ok (segment_expiry bytes m k)
+  Ok (segment_expiry bytes m k)
 
-unfoldable pub expiry_in : ℕ → List ℕ → Result PathError ℕ
+unfoldable pub expiry_in : ℕ → List ℕ → Result ℕ PathError
 expiry_in type bytes = do
   m ← standard type bytes
-  ok (path_expiry bytes m)
+  Ok (path_expiry bytes m)
 
 -- what is left of it at a time, which may be below zero; 10 for a time above its bound
-unfoldable pub time_left_in : ℕ → List ℕ → ℕ → Result PathError ℤ
+unfoldable pub time_left_in : ℕ → List ℕ → ℕ → Result ℤ PathError
 time_left_in type bytes now = do
   expiry ← expiry_in type bytes
   require (leb now largest_time) NumberTooWide
-  ok (sub_ℕ expiry now)
+  Ok (sub_ℕ expiry now)
 
 -- a theorem: both are what the record tells that reading hands back. It is bounded, so the record's own bound refuses none of these
 abbrev pub AskedOfTheRecord : Type 0
@@ -41,5 +41,5 @@ AskedOfTheRecord =
     × ((now : ℕ) → time_left_in type bytes now ≡ and_then record_of (λ path. time_left_of path now))
 
 -- what is handed back of an expiry, beside the record of the path: all zero where it is refused
-unfoldable pub expiry_found : StandardPath → Result PathError ℕ → Expiry
+unfoldable pub expiry_found : StandardPath → Result ℕ PathError → Expiry
 expiry_found path r = record { answer = answer_of r; path = beside path r; ms = or_else r 0 }

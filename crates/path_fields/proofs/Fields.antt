@@ -10,7 +10,8 @@ use native.Mathlib.Omega.{arith}
 use lib.Dec.{eqb}
 use lib.ListN.{length, get_or, length-append}
 use borrow.Author.Tests.{eq-eqb}
-use Rattle.wire_encoding.specs.Result.{ok, or_else}
+use Rattle.std.specs.Prelude.{Ok}
+use Rattle.wire_encoding.specs.Result.{or_else}
 use Rattle.wire_encoding.specs.BigEndian.{big_endian, number_at, part}
 use Rattle.wire_encoding.proofs.Bits.{flip_made, flip_above}
 use Rattle.wire_encoding.proofs.Lists.{Bytes, by_lt, length_part, get_or_part, part-part, part_left, get_or_by_part}
@@ -39,7 +40,7 @@ module _ (bytes : List ℕ) (at : ℕ) where
         read_part 4 bytes at 8 4 (omega arith),
       )
 
-  pub info_of_part : at + 8 ≤ length bytes → new_info_field (part at 8 bytes) ≡ ok (info_field_at bytes at)
+  pub info_of_part : at + 8 ≤ length bytes → new_info_field (part at 8 bytes) ≡ Ok (info_field_at bytes at)
   unfolding new_info_field
   info_of_part h = rw (eq-eqb (length (part at 8 bytes)) 8 (length_part at 8 bytes h), info_at_part h)
 
@@ -57,7 +58,7 @@ module _ (bytes : List ℕ) (at : ℕ) where
         part-part at 12 6 6 bytes (omega arith) h,
       )
 
-  pub hop_of_part : at + 12 ≤ length bytes → new_hop_field (part at 12 bytes) ≡ ok (hop_field_at bytes at)
+  pub hop_of_part : at + 12 ≤ length bytes → new_hop_field (part at 12 bytes) ≡ Ok (hop_field_at bytes at)
   unfolding new_hop_field
   hop_of_part h = rw (eq-eqb (length (part at 12 bytes)) 12 (length_part at 12 bytes h), hop_at_part h)
 

@@ -1,8 +1,8 @@
 -- The draft's Info Field (P, C, RSV, Acc, Timestamp) and Hop Field (I, E, ExpTime, ConsIngress, ConsEgress, MAC), read at an offset.
-use Rattle.std.specs.Prelude.{ℕ, ◌+◌, ◌*◌, Bool, cond, List, length, get_or, replicate, eqb}
+use Rattle.std.specs.Prelude.{ℕ, ◌+◌, ◌*◌, Bool, cond, List, length, get_or, replicate, eqb, Result, Ok}
 use Rattle.wire_encoding.specs.Bits.{bit_of, with_bit}
 use Rattle.wire_encoding.specs.BigEndian.{big_endian, part}
-use Rattle.wire_encoding.specs.Result.{Result, ok, require, ◌>>◌, or_else}
+use Rattle.wire_encoding.specs.Result.{require, ◌>>◌, or_else}
 use Rattle.path_fields.specs.declared.InfoField.{InfoField}
 use Rattle.path_fields.specs.declared.InfoFieldRead.{InfoFieldRead}
 use Rattle.path_fields.specs.declared.HopField.{HopField}
@@ -34,13 +34,13 @@ unfoldable pub zero_info_field : InfoField
 zero_info_field = record { flags = 0; reserved = 0; accumulator = 0; timestamp = 0 }
 
 -- an info field of a part: 9 unless the part has 8 bytes
-unfoldable pub new_info_field : List ℕ → Result PathError InfoField
+unfoldable pub new_info_field : List ℕ → Result InfoField PathError
 new_info_field part = do
   require (eqb (length part) info_field_length) InadequateBufferSize
-  ok (info_field_at part 0)
+  Ok (info_field_at part 0)
 
 -- as it is handed back; all zero where it is refused
-abbrev pub info_field_read : Result PathError InfoField → InfoFieldRead
+abbrev pub info_field_read : Result InfoField PathError → InfoFieldRead
 info_field_read r = record { answer = answer_of r; field = or_else r zero_info_field }
 
 -- the one at `at` among bytes; all zero where they end before it does
@@ -78,13 +78,13 @@ unfoldable pub zero_hop_field : HopField
 zero_hop_field = record { flags = 0; exp_time = 0; cons_ingress = 0; cons_egress = 0; mac = replicate 6 0 }
 
 -- a hop field of a part: 9 unless the part has 12 bytes
-unfoldable pub new_hop_field : List ℕ → Result PathError HopField
+unfoldable pub new_hop_field : List ℕ → Result HopField PathError
 new_hop_field part = do
   require (eqb (length part) hop_field_length) InadequateBufferSize
-  ok (hop_field_at part 0)
+  Ok (hop_field_at part 0)
 
 -- as it is handed back; all zero where it is refused
-abbrev pub hop_field_read : Result PathError HopField → HopFieldRead
+abbrev pub hop_field_read : Result HopField PathError → HopFieldRead
 hop_field_read r = record { answer = answer_of r; field = or_else r zero_hop_field }
 
 -- the one at `at` among bytes; all zero where they end before it does

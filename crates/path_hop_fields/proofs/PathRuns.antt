@@ -7,7 +7,8 @@ use native.Mathlib.Omega.{arith}
 use lib.ListN.{length}
 use lib.Dec.{ltb}
 use borrow.Author.Tests.{ltb-true, lt-ltb}
-use Rattle.wire_encoding.specs.Result.{Result, ok, or_else}
+use Rattle.std.specs.Prelude.{Result, Ok}
+use Rattle.wire_encoding.specs.Result.{or_else}
 use Rattle.wire_encoding.specs.BigEndian.{part}
 use Rattle.wire_encoding.proofs.Lists.{length_part, part-part}
 use Rattle.wire_encoding.proofs.Result.{held, same_value}
@@ -23,7 +24,7 @@ use Rattle.path.proofs.Reading.{standard_readable}
 use Rattle.path_hop_fields.specs.PathRuns.{hop_fields_in, Run, SegmentRuns, PathRuns}
 
 -- a path that was read, of which n hop fields are looked at, hop field `at` and those that follow
-module _ (type : ℕ) (bytes : List ℕ) (m : PathMetaHeader) (read : standard type bytes ≡ ok m) where
+module _ (type : ℕ) (bytes : List ℕ) (m : PathMetaHeader) (read : standard type bytes ≡ Ok m) where
   -- the path's hop field j lies where it should
   hop_field_at_lem : (j : ℕ) → j < hop_fields_count m → part (hop_start m j) 12 bytes ≡ part_in bytes (or_else (hop_field_in type bytes j) nowhere)
   unfolding hop_field_in hop_field_offset
@@ -60,5 +61,5 @@ unfolding SegmentRuns segment_in
 segment_runs type bytes k m segment read found =
     let there = held (ltb k (info_fields_count m)) _ _ (rw read at found) in
     let is : ◌≡◌ {A = Part} (record { start = hop_start m (first_hop_field m k); len = segment_length m k * 12 }) segment.hops =
-    ap (λ (r : Result PathError Fields). (or_else r segment).hops) there.1 in
+    ap (λ (r : Result Fields PathError). (or_else r segment).hops) there.1 in
     rw (← is) (is_run type bytes m read (first_hop_field m k) (segment_length m k) (segment_within m k (ltb-true _ _ there.0)).1)

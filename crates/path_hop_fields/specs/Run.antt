@@ -1,6 +1,6 @@
 -- A run of hop fields, 12 bytes each: what a read at either end gives and what it leaves.
-use Rattle.std.specs.Prelude.{ℕ, ◌*◌, ◌-◌, ◌/◌, ◌%◌, cond, List, [], length, take, drop, ltb, eqb}
-use Rattle.wire_encoding.specs.Result.{Result, ok, require, ◌>>◌, or_else}
+use Rattle.std.specs.Prelude.{ℕ, ◌*◌, ◌-◌, ◌/◌, ◌%◌, cond, List, [], length, take, drop, ltb, eqb, Result, Ok}
+use Rattle.wire_encoding.specs.Result.{require, ◌>>◌, or_else}
 use Rattle.wire_encoding.specs.BigEndian.{part, records}
 use Rattle.path_fields.specs.Fields.{hop_field_length, new_hop_field, zero_hop_field}
 use Rattle.errors.specs.declared.path_error.PathError.{PathError}
@@ -8,10 +8,10 @@ use Rattle.errors.specs.declared.path_error.PathError.TheVariants.{InadequateBuf
 use Rattle.path_hop_fields.specs.declared.view.Ends.{Ends}
 
 -- bytes that are a run: 9 where their number is no multiple of 12
-unfoldable pub run_of : List ℕ → Result PathError (List ℕ)
+unfoldable pub run_of : List ℕ → Result (List ℕ) PathError
 run_of bytes = do
   require (eqb (length bytes % hop_field_length) 0) InadequateBufferSize
-  ok bytes
+  Ok bytes
 
 -- nothing where they are refused
 unfoldable pub whole : List ℕ → List ℕ

@@ -8,7 +8,8 @@ use mathlib.Core.List.{List}
 use native.Mathlib.Omega.{arith}
 use lib.Dec.{ltb}
 use borrow.Author.Tests.{lt-ltb, ltb-true}
-use Rattle.wire_encoding.specs.Result.{Result, ok, refused, and_then, mapped}
+use Rattle.std.specs.Prelude.{Result, Ok, Err}
+use Rattle.wire_encoding.specs.Result.{and_then, mapped}
 use Rattle.wire_encoding.proofs.Result.{held, stepped, same_value}
 use Rattle.errors.specs.declared.path_error.PathError.{PathError}
 use Rattle.path_meta_header.specs.MetaHeader.{hop_fields_count, info_fields_count, segment_of, interfaces_count, segment_of_link, link_end, hop_field_of}
@@ -26,11 +27,11 @@ use Rattle.path_interfaces.specs.Interfaces.{Joins, OfLink, EveryLink, EveryInde
 module _ (bytes : List ℕ) (m : PathMetaHeader) where
   module _ (peering : peering_path bytes m ≡ true) where
     -- a peering path has those under 2 · (N − 1), of hop fields i / 2 rounded up
-    peering-there : (i : ℕ) → i < (hop_fields_count m - 1) * 2 → hop_field_on bytes m i ≡ ok ((i + 1) / 2)
+    peering-there : (i : ℕ) → i < (hop_fields_count m - 1) * 2 → hop_field_on bytes m i ≡ Ok ((i + 1) / 2)
     unfolding hop_field_on count_on
     peering-there i below = rw (peering, lt-ltb _ _ below)
 
-    peering_found : (i : ℕ) {j : ℕ} → hop_field_on bytes m i ≡ ok j → (i < (hop_fields_count m - 1) * 2) × ((i + 1) / 2 ≡ j)
+    peering_found : (i : ℕ) {j : ℕ} → hop_field_on bytes m i ≡ Ok j → (i < (hop_fields_count m - 1) * 2) × ((i + 1) / 2 ≡ j)
     unfolding hop_field_on count_on
     peering_found i h =
         let there = held (ltb i ((hop_fields_count m - 1) * 2)) _ _ (rw peering at h) in
@@ -42,7 +43,7 @@ module _ (bytes : List ℕ) (m : PathMetaHeader) where
   other_hop_field other i = rw other
 
   -- an index under the header's count, and its hop field
-  other_found : peering_path bytes m ≡ false → (i : ℕ) {j : ℕ} → hop_field_on bytes m i ≡ ok j
+  other_found : peering_path bytes m ≡ false → (i : ℕ) {j : ℕ} → hop_field_on bytes m i ≡ Ok j
       → (i < interfaces_count m) × (link_end m i ≡ j)
   unfolding hop_field_of
   other_found other i h =
@@ -51,7 +52,7 @@ module _ (bytes : List ℕ) (m : PathMetaHeader) where
 
   -- interface i of link l, which is of segment k
   other_there : peering_path bytes m ≡ false → (i l k : ℕ) → i / 2 ≡ l → segment_of_link m l ≡ k
-      → l < hop_fields_count m - info_fields_count m → hop_field_on bytes m i ≡ ok (l + i % 2 + k)
+      → l < hop_fields_count m - info_fields_count m → hop_field_on bytes m i ≡ Ok (l + i % 2 + k)
   unfolding hop_field_of link_end interfaces_count
   other_there other i l k half segment there =
       let below : i < (hop_fields_count m - info_fields_count m) * 2 = omega arith in
@@ -64,7 +65,7 @@ link_there : (m : PathMetaHeader) (i : ℕ) → i < interfaces_count m → i / 2
 unfolding interfaces_count
 link_there m i below = omega arith
 
-interface_below : (bytes : List ℕ) (m : PathMetaHeader) → lengths_valid m ≡ true → (i : ℕ) {j : ℕ} → hop_field_on bytes m i ≡ ok j
+interface_below : (bytes : List ℕ) (m : PathMetaHeader) → lengths_valid m ≡ true → (i : ℕ) {j : ℕ} → hop_field_on bytes m i ≡ Ok j
     → j < hop_fields_count m
 unfolding link_end
 interface_below bytes m valid i {j} h = go (peering_path bytes m) refl
@@ -76,7 +77,7 @@ interface_below bytes m valid i {j} h = go (peering_path bytes m) refl
         omega (arith, found.1, (links m valid (i / 2) (link_there m i found.0)).inside)
 
 -- so it and its segment's info field are among the bytes
-pub interface_there : (bytes : List ℕ) (m : PathMetaHeader) → Readable bytes m → (i : ℕ) {j : ℕ} → hop_field_on bytes m i ≡ ok j
+pub interface_there : (bytes : List ℕ) (m : PathMetaHeader) → Readable bytes m → (i : ℕ) {j : ℕ} → hop_field_on bytes m i ≡ Ok j
     → hop_is_there bytes m j
 unfolding path_length
 interface_there bytes m read i {j} h =
@@ -85,12 +86,12 @@ interface_there bytes m read i {j} h =
 
 -- LINKS
 
-module _ (bytes : List ℕ) (m : PathMetaHeader) (read : standard 1 bytes ≡ ok m) where
+module _ (bytes : List ℕ) (m : PathMetaHeader) (read : standard 1 bytes ≡ Ok m) where
   valid : lengths_valid m ≡ true
   valid = (standard_readable bytes 1 read).sound_meta.lengths
 
   -- a link joins the hop fields of its two indexes
-  joins : (l j : ℕ) → hop_field_on bytes m (2 * l) ≡ ok j → hop_field_on bytes m (2 * l + 1) ≡ ok (j + 1) → Joins bytes m l j
+  joins : (l j : ℕ) → hop_field_on bytes m (2 * l) ≡ Ok j → hop_field_on bytes m (2 * l + 1) ≡ Ok (j + 1) → Joins bytes m l j
   unfolding interface_in interface_at
   joins l j near far =
       let even : 2 * l % 2 ≡ 0 = omega arith in
@@ -101,8 +102,8 @@ module _ (bytes : List ℕ) (m : PathMetaHeader) (read : standard 1 bytes ≡ ok
   peering_link peering l below =
       let near : (2 * l + 1) / 2 ≡ l = omega arith in
       let far : (2 * l + 1 + 1) / 2 ≡ l + 1 = omega arith in
-      joins l l (peering-there bytes m peering (2 * l) (omega arith) ∙ ap ok near)
-      (peering-there bytes m peering (2 * l + 1) (omega arith) ∙ ap ok far)
+      joins l l (peering-there bytes m peering (2 * l) (omega arith) ∙ ap Ok near)
+      (peering-there bytes m peering (2 * l + 1) (omega arith) ∙ ap Ok far)
 
   segment_link : peering_path bytes m ≡ false → (j k : ℕ) → j + 1 < hop_fields_count m → segment_of m j ≡ k → segment_of m (j + 1) ≡ k
       → Joins bytes m (j - k) j
@@ -111,8 +112,8 @@ module _ (bytes : List ℕ) (m : PathMetaHeader) (read : standard 1 bytes ≡ ok
       let l : ℕ = j - k in
       let first : l + 2 * l % 2 + k ≡ j = omega (arith, link.before) in
       let second : l + (2 * l + 1) % 2 + k ≡ j + 1 = omega (arith, link.before) in
-      joins l j (other_there bytes m other (2 * l) l k (omega arith) link.link link.there ∙ ap ok first)
-      (other_there bytes m other (2 * l + 1) l k (omega arith) link.link link.there ∙ ap ok second)
+      joins l j (other_there bytes m other (2 * l) l k (omega arith) link.link link.there ∙ ap Ok first)
+      (other_there bytes m other (2 * l + 1) l k (omega arith) link.link link.there ∙ ap Ok second)
 
 pub every_link : EveryLink
 every_link bytes m read = (peering_link bytes m read, segment_link bytes m read)
@@ -121,12 +122,12 @@ pub every_index : EveryIndex
 unfolding interface_in link_end
 every_index bytes m read i place h = go (peering_path bytes m) refl
   where
-    found : hop_field_on bytes m i ≡ ok place.hop
+    found : hop_field_on bytes m i ≡ Ok place.hop
     found =
         let known = stepped (standard 1 bytes) _ h in
         let hop = stepped (hop_field_on bytes known.value i) _ known.then in
         let same : known.value ≡ m = same_value (sym known.first ∙ read) in
-        rw (← same) (hop.first ∙ ap (λ (p : Place). ok p.hop) (same_value hop.then))
+        rw (← same) (hop.first ∙ ap (λ (p : Place). Ok p.hop) (same_value hop.then))
 
     -- from the first hop field of its link
     from : {j : ℕ} → place.hop - i % 2 ≡ j → OfLink bytes m i j → OfLink bytes m i (place.hop - i % 2)
@@ -161,7 +162,7 @@ unfolding interfaces_in interface_in count_on
 other_paths type bytes m read other =
     (rw (read, other) refl, λ i. rw (read, other_hop_field bytes m other i) (go i (hop_field_of m i)))
   where
-    go : (i : ℕ) (of : Result PathError ℕ)
-        → mapped (λ (place : Place). place.hop) (and_then of (λ j. ok (record { hop = j; interface = interface_at bytes m j i }))) ≡ of
-    go i (ok j) = refl
-    go i (refused error) = refl
+    go : (i : ℕ) (of : Result ℕ PathError)
+        → mapped (λ (place : Place). place.hop) (and_then of (λ j. Ok (record { hop = j; interface = interface_at bytes m j i }))) ≡ of
+    go i (Ok j) = refl
+    go i (Err error) = refl

@@ -1,7 +1,7 @@
 -- Worked examples: how many interfaces a path has, which hop fields they belong to, and their numbers, on peering paths and beside them.
-use Rattle.std.specs.Prelude.{ℕ, zero, suc, ◌+◌, ◌*◌, ◌≡◌, replicate}
+use Rattle.std.specs.Prelude.{ℕ, zero, suc, ◌+◌, ◌*◌, ◌≡◌, replicate, Result, Ok, Err}
 use mathlib.Core.List.{List, [], ◌∷◌, ◌++◌, map, flat_map}
-use Rattle.wire_encoding.specs.Result.{Result, ok, refused, mapped}
+use Rattle.wire_encoding.specs.Result.{mapped}
 use Rattle.errors.specs.declared.path_error.PathError.{PathError}
 use Rattle.errors.specs.declared.path_error.PathError.TheVariants.{NoSuchField}
 use Rattle.path_fields.specs.declared.Interface.TheVariants.{Id}
@@ -46,37 +46,37 @@ PeeringCounts =
     ∷ path (0x00 ∷ 0x00 ∷ 0x30 ∷ 0xC0 ∷ []) (0x02 ∷ 0x03 ∷ []) 6
     ∷ path (0x00 ∷ 0x03 ∷ 0xFF ∷ 0xC0 ∷ []) (0x02 ∷ 0x03 ∷ []) 126
     ∷ [])
-    ≡ ok 2 ∷ ok 4 ∷ ok 6 ∷ ok 10 ∷ ok 250 ∷ []
+    ≡ Ok 2 ∷ Ok 4 ∷ Ok 6 ∷ Ok 10 ∷ Ok 250 ∷ []
 
 -- with peering on one of two, on none, and on all of one or three
 abbrev pub OtherCounts : Type 0
 OtherCounts =
     map (interfaces_in 1) (two_by_two 0x02 0x01 ∷ two_by_two 0x00 0x03 ∷ two_by_two 0x00 0x01 ∷ single ∷ triple ∷ [])
-    ≡ ok 4 ∷ ok 4 ∷ ok 4 ∷ ok 2 ∷ ok 6 ∷ []
+    ≡ Ok 4 ∷ Ok 4 ∷ Ok 4 ∷ Ok 2 ∷ Ok 6 ∷ []
 
 -- the hop field of interface i
-unfoldable pub hop_field_for : List ℕ → ℕ → Result PathError ℕ
+unfoldable pub hop_field_for : List ℕ → ℕ → Result ℕ PathError
 hop_field_for bytes i = mapped (λ (place : Place). place.hop) (interface_in 1 bytes i)
 
 -- each, and one beyond the count: with peering on both of 1, 1 and of 1, 2, and on all of 2, 2, 2
 abbrev pub HopFieldsFound : Type 0
 HopFieldsFound =
-    (map (hop_field_for one_by_one) (0 ∷ 1 ∷ 2 ∷ []) ≡ ok 0 ∷ ok 1 ∷ refused NoSuchField ∷ [])
-    × (map (hop_field_for one_by_two) (0 ∷ 1 ∷ 2 ∷ 3 ∷ 4 ∷ []) ≡ ok 0 ∷ ok 1 ∷ ok 1 ∷ ok 2 ∷ refused NoSuchField ∷ [])
+    (map (hop_field_for one_by_one) (0 ∷ 1 ∷ 2 ∷ []) ≡ Ok 0 ∷ Ok 1 ∷ Err NoSuchField ∷ [])
+    × (map (hop_field_for one_by_two) (0 ∷ 1 ∷ 2 ∷ 3 ∷ 4 ∷ []) ≡ Ok 0 ∷ Ok 1 ∷ Ok 1 ∷ Ok 2 ∷ Err NoSuchField ∷ [])
     × (map (hop_field_for triple) (0 ∷ 1 ∷ 2 ∷ 3 ∷ 4 ∷ 5 ∷ 6 ∷ [])
-    ≡ ok 0 ∷ ok 1 ∷ ok 2 ∷ ok 3 ∷ ok 4 ∷ ok 5 ∷ refused NoSuchField ∷ [])
+    ≡ Ok 0 ∷ Ok 1 ∷ Ok 2 ∷ Ok 3 ∷ Ok 4 ∷ Ok 5 ∷ Err NoSuchField ∷ [])
 
 -- interface `number`, of hop field j
-unfoldable pub at : ℕ → ℕ → Result PathError Place
-at j number = ok (record { hop = j; interface = Id number })
+unfoldable pub at : ℕ → ℕ → Result Place PathError
+at j number = Ok (record { hop = j; interface = Id number })
 
 -- of 2, 2, the first segment against construction direction: with peering on both, also at the count and at the largest index; on one
 abbrev pub InterfacesFound : Type 0
 InterfacesFound =
     (map (interface_in 1 (two_by_two 0x02 0x03)) (0 ∷ 1 ∷ 2 ∷ 3 ∷ 4 ∷ 5 ∷ 6 ∷ 18446744073709551615 ∷ [])
-    ≡ at 0 1 ∷ at 1 4 ∷ at 1 3 ∷ at 2 5 ∷ at 2 6 ∷ at 3 7 ∷ refused NoSuchField ∷ refused NoSuchField ∷ [])
+    ≡ at 0 1 ∷ at 1 4 ∷ at 1 3 ∷ at 2 5 ∷ at 2 6 ∷ at 3 7 ∷ Err NoSuchField ∷ Err NoSuchField ∷ [])
     × (map (interface_in 1 (two_by_two 0x02 0x01)) (0 ∷ 1 ∷ 2 ∷ 3 ∷ 4 ∷ [])
-    ≡ at 0 1 ∷ at 1 4 ∷ at 2 6 ∷ at 3 7 ∷ refused NoSuchField ∷ [])
+    ≡ at 0 1 ∷ at 1 4 ∷ at 2 6 ∷ at 3 7 ∷ Err NoSuchField ∷ [])
 
 abbrev pub Computed : Type 0
 Computed = PeeringCounts × OtherCounts × HopFieldsFound × InterfacesFound

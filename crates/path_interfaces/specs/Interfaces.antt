@@ -1,7 +1,7 @@
 -- The interfaces of a path in the order of travel: each link between two hop fields has two, the egress of the one and the ingress of
 -- the other.
-use Rattle.std.specs.Prelude.{ℕ, ◌+◌, ◌-◌, ◌*◌, ◌/◌, ◌%◌, ◌≤◌, ◌<◌, ◌≡◌, true, false, cond, List, length, ltb, eqb}
-use Rattle.wire_encoding.specs.Result.{Result, ok, require, ◌>>◌, ◌>>=◌, mapped, or_else}
+use Rattle.std.specs.Prelude.{ℕ, ◌+◌, ◌-◌, ◌*◌, ◌/◌, ◌%◌, ◌≤◌, ◌<◌, ◌≡◌, true, false, cond, List, length, ltb, eqb, Result, Ok}
+use Rattle.wire_encoding.specs.Result.{require, ◌>>◌, ◌>>=◌, mapped, or_else}
 use Rattle.path_meta_header.specs.MetaHeader.{info_fields_count, hop_fields_count, segment_of, interfaces_count, link_end, hop_field_of, hop_start}
 use Rattle.path_meta_header.specs.declared.PathMetaHeader.{PathMetaHeader}
 use Rattle.path_fields.specs.Fields.{ingress_interface, egress_interface}
@@ -20,16 +20,16 @@ use Rattle.path_interfaces.specs.declared.InterfaceAt.{InterfaceAt}
 unfoldable pub count_on : List ℕ → PathMetaHeader → ℕ
 count_on bytes m = cond (peering_path bytes m) ((hop_fields_count m - 1) * 2) (interfaces_count m)
 
-unfoldable pub interfaces_in : ℕ → List ℕ → Result PathError ℕ
+unfoldable pub interfaces_in : ℕ → List ℕ → Result ℕ PathError
 interfaces_in type bytes = do
   m ← standard type bytes
-  ok (count_on bytes m)
+  Ok (count_on bytes m)
 
 -- the hop field that interface i belongs to: i / 2 rounded up on a peering path, on other paths the header's; 8 where there is none
-unfoldable pub hop_field_on : List ℕ → PathMetaHeader → ℕ → Result PathError ℕ
+unfoldable pub hop_field_on : List ℕ → PathMetaHeader → ℕ → Result ℕ PathError
 hop_field_on bytes m i = do
   require (ltb i (count_on bytes m)) NoSuchField
-  ok (cond (peering_path bytes m) ((i + 1) / 2) (link_end m i))
+  Ok (cond (peering_path bytes m) ((i + 1) / 2) (link_end m i))
 
 -- the egress and the ingress of hop field j, in the direction of its segment
 abbrev pub egress_at : List ℕ → PathMetaHeader → ℕ → Interface
@@ -47,17 +47,17 @@ pub record Place : Type 0 where
   pub hop : ℕ
   pub interface : Interface
 
-unfoldable pub interface_in : ℕ → List ℕ → ℕ → Result PathError Place
+unfoldable pub interface_in : ℕ → List ℕ → ℕ → Result Place PathError
 interface_in type bytes i = do
   m ← standard type bytes
   j ← hop_field_on bytes m i
-  ok (record { hop = j; interface = interface_at bytes m j i })
+  Ok (record { hop = j; interface = interface_at bytes m j i })
 
 -- what is handed back, beside the record of the path: all zero where it is refused
-unfoldable pub interface_count : StandardPath → Result PathError ℕ → InterfaceCount
+unfoldable pub interface_count : StandardPath → Result ℕ PathError → InterfaceCount
 interface_count path r = record { answer = answer_of r; path = beside path r; count = or_else r 0 }
 
-unfoldable pub interface_found : StandardPath → Result PathError Place → InterfaceAt
+unfoldable pub interface_found : StandardPath → Result Place PathError → InterfaceAt
 interface_found path r =
     let found = or_else r (record { hop = 0; interface = interface.None }) in
     record { answer = answer_of r; path = beside path r; hop_field = found.hop; interface = found.interface }
@@ -71,14 +71,14 @@ pub record hop_is_there (bytes : List ℕ) (m : PathMetaHeader) (j : ℕ) : Type
 
 -- link l joins hop fields j and j + 1: index 2l is the egress of the one, index 2l + 1 the ingress of the other
 pub record Joins (bytes : List ℕ) (m : PathMetaHeader) (l j : ℕ) : Type 0 where
-  pub egress : interface_in 1 bytes (2 * l) ≡ ok (record { hop = j; interface = egress_at bytes m j })
-  pub ingress : interface_in 1 bytes (2 * l + 1) ≡ ok (record { hop = j + 1; interface = ingress_at bytes m (j + 1) })
+  pub egress : interface_in 1 bytes (2 * l) ≡ Ok (record { hop = j; interface = egress_at bytes m j })
+  pub ingress : interface_in 1 bytes (2 * l + 1) ≡ Ok (record { hop = j + 1; interface = ingress_at bytes m (j + 1) })
 
 -- a theorem: link l of a peering path joins hop fields l and l + 1, the middle two among them; on other paths, hop fields j and j + 1 of
 -- one segment k are joined by link j − k
 abbrev pub EveryLink : Type 0
 EveryLink =
-    (bytes : List ℕ) (m : PathMetaHeader) → standard 1 bytes ≡ ok m
+    (bytes : List ℕ) (m : PathMetaHeader) → standard 1 bytes ≡ Ok m
     → (peering_path bytes m ≡ true → (l : ℕ) → l + 1 < hop_fields_count m → Joins bytes m l l)
     × (peering_path bytes m ≡ false → (j k : ℕ) → j + 1 < hop_fields_count m → segment_of m j ≡ k → segment_of m (j + 1) ≡ k
     → Joins bytes m (j - k) j)
@@ -93,12 +93,12 @@ pub record OfLink (bytes : List ℕ) (m : PathMetaHeader) (i j : ℕ) : Type 0 w
 -- even, else the one before it
 abbrev pub EveryIndex : Type 0
 EveryIndex =
-    (bytes : List ℕ) (m : PathMetaHeader) → standard 1 bytes ≡ ok m → (i : ℕ) (place : Place) → interface_in 1 bytes i ≡ ok place
+    (bytes : List ℕ) (m : PathMetaHeader) → standard 1 bytes ≡ Ok m → (i : ℕ) (place : Place) → interface_in 1 bytes i ≡ Ok place
     → OfLink bytes m i (place.hop - i % 2)
 
 -- a theorem: other paths than peering paths have the header's count and its hop fields
 abbrev pub OtherPaths : Type 0
 OtherPaths =
-    (type : ℕ) (bytes : List ℕ) (m : PathMetaHeader) → standard type bytes ≡ ok m → peering_path bytes m ≡ false
-    → (interfaces_in type bytes ≡ ok (interfaces_count m))
+    (type : ℕ) (bytes : List ℕ) (m : PathMetaHeader) → standard type bytes ≡ Ok m → peering_path bytes m ≡ false
+    → (interfaces_in type bytes ≡ Ok (interfaces_count m))
     × ((i : ℕ) → mapped (λ (place : Place). place.hop) (interface_in type bytes i) ≡ hop_field_of m i)

@@ -7,7 +7,7 @@ use mathlib.Core.List.{List, [], ◌∷◌}
 use native.Mathlib.Omega.{arith}
 use lib.ListN.{length, get_or}
 use borrow.Author.Tests.{eq-eqb, ltb-true}
-use Rattle.wire_encoding.specs.Result.{ok, refused}
+use Rattle.std.specs.Prelude.{Ok, Err}
 use Rattle.wire_encoding.proofs.Result.{held, unmet}
 use Rattle.wire_encoding.specs.BigEndian.{bytes_of}
 use Rattle.wire_encoding.proofs.BigEndian.{length_bytes_of}
@@ -84,16 +84,16 @@ unfolding meta_of nth_field word_of
 word_back w h = rw ((next w h).0, (next w h).1, (middle w).0, (middle w).1, (last w).0, (last w).1)
 
 -- what `as_u32`'s answer says of the header
-pub word_is : (m : PathMetaHeader) {n : ℕ} → ok n ≡ as_word m → (meta_fits m ≡ true) × (n ≡ word_of m)
+pub word_is : (m : PathMetaHeader) {n : ℕ} → Ok n ≡ as_word m → (meta_fits m ≡ true) × (n ≡ word_of m)
 unfolding as_word
 word_is m e = let r = held (meta_fits m) 10 _ (sym e) in (r.0, cc)
 
-pub word_wide : (m : PathMetaHeader) → refused 10 ≡ as_word m → meta_fits m ≡ false
+pub word_wide : (m : PathMetaHeader) → Err 10 ≡ as_word m → meta_fits m ≡ false
 unfolding as_word
 word_wide m e = unmet (meta_fits m) 10 (word_of m) (sym e)
 
 -- a header that fits is written to four bytes
-pub meta_written : (m : PathMetaHeader) (n : ℕ) → meta_fits m ≡ true → n ≡ 4 → write_meta m n ≡ ok (bytes_of 4 (word_of m))
+pub meta_written : (m : PathMetaHeader) (n : ℕ) → meta_fits m ≡ true → n ≡ 4 → write_meta m n ≡ Ok (bytes_of 4 (word_of m))
 unfolding write_meta
 meta_written m n f l = rw (f, eq-eqb n 4 l)
 

@@ -9,7 +9,7 @@ use native.Mathlib.Omega.{arith}
 use lib.ListN.{length}
 use lib.Dec.{eqb}
 use borrow.Author.Tests.{lt-ltb, le-leb}
-use Rattle.wire_encoding.specs.Result.{ok}
+use Rattle.std.specs.Prelude.{Ok}
 use Rattle.wire_encoding.proofs.Result.{same_value, held}
 use Rattle.wire_encoding.specs.BigEndian.{big_endian, bytes_of, room}
 use Rattle.wire_encoding.proofs.BigEndian.{length_bytes_of, read_bytes_of, bytes_read_back, numbers_below}
@@ -52,4 +52,4 @@ meta_writes_again bytes b long =
     let word : ℕ = big_endian 4 bytes 0 in
     let small : word < 2 ^ 32 = omega (arith, numbers_below bytes b 0 4) in
     meta_written (meta_of word) 4 (fits_word word small) refl
-    ∙ ap ok (ap (bytes_of 4) (word_back word small) ∙ bytes_read_back 4 bytes b 0 (omega arith))
+    ∙ ap Ok (ap (bytes_of 4) (word_back word small) ∙ bytes_read_back 4 bytes b 0 (omega arith))

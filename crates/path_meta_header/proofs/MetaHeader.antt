@@ -12,7 +12,7 @@ use borrow.Author.Tests.{ltb-true, ltb-false, eqb-true, eqb-false, lt-ltb, le-lt
 use Rattle.wire_encoding.proofs.Lists.{by_lt}
 use Rattle.wire_encoding.proofs.Result.{held}
 use Rattle.path_meta_header.specs.declared.PathMetaHeader.{PathMetaHeader}
-use Rattle.wire_encoding.specs.Result.{Result, ok, refused}
+use Rattle.std.specs.Prelude.{Result, Ok, Err}
 use Rattle.errors.specs.declared.packet_error.DecodeError.{DecodeError}
 use Rattle.errors.specs.declared.packet_error.DecodeError.TheVariants.{InvalidPath}
 use Rattle.errors.specs.declared.path_error.DataplanePathErrorKind.TheVariants.{InvalidSegmentLengths}
@@ -325,7 +325,7 @@ unfolding meta_of nth_field
 lengths_read word = record { first = omega arith; second = omega arith; third = omega arith; these = refl }
 
 -- wrong lengths are refused first, whatever else is wrong
-pub wrong_lengths : (m : PathMetaHeader) → lengths_valid m ≡ false → checked m ≡ refused (InvalidPath InvalidSegmentLengths)
+pub wrong_lengths : (m : PathMetaHeader) → lengths_valid m ≡ false → checked m ≡ Err (InvalidPath InvalidSegmentLengths)
 unfolding checked
 wrong_lengths m e = rw e
 
@@ -342,7 +342,7 @@ both : (a b : Bool) → a && b ≡ true → (a ≡ true) × (b ≡ true)
 both true b h = (refl, h)
 both false b h = let z : ◌≡◌ {A = ℕ} 0 1 = cc in absurd (omega arith)
 
-pub checked_sound : (m : PathMetaHeader) {read : PathMetaHeader} → checked m ≡ ok read → Sound m × (m ≡ read)
+pub checked_sound : (m : PathMetaHeader) {read : PathMetaHeader} → checked m ≡ Ok read → Sound m × (m ≡ read)
 unfolding checked info_valid hop_valid
 checked_sound m h =
     let lengths = held (lengths_valid m) _ _ h in
@@ -358,18 +358,18 @@ checked_sound m h =
       cc,
     )
 
-pub sound_checked : (m : PathMetaHeader) → Sound m → checked m ≡ ok m
+pub sound_checked : (m : PathMetaHeader) → Sound m → checked m ≡ Ok m
 unfolding checked info_valid hop_valid
 sound_checked m s = rw (s.lengths, lt-ltb _ _ s.info, lt-ltb _ _ s.hop, eq-eqb _ _ s.segment)
 
 -- WHAT A READER HANDS BACK
 
 -- a caller of `decode` learns what was read
-module _ (r : Result DecodeError PathMetaHeader) {read : MetaRead} (is : read ≡ meta_read r) where
-  pub meta_ok : read.answer ≡ Accepted → r ≡ ok read.meta_header
+module _ (r : Result PathMetaHeader DecodeError) {read : MetaRead} (is : read ≡ meta_read r) where
+  pub meta_ok : read.answer ≡ Accepted → r ≡ Ok read.meta_header
   unfolding meta_read
   meta_ok h = told.decoded_ok r (meta_of 0) (ap (λ (x : MetaRead). x.answer) is) (ap (λ (x : MetaRead). x.meta_header) is) h
 
-  pub meta_refused : {error : DecodeError} → read.answer ≡ Refused error → r ≡ refused error
+  pub meta_refused : {error : DecodeError} → read.answer ≡ Refused error → r ≡ Err error
   unfolding meta_read
   meta_refused h = told.decoded_refused r (ap (λ (x : MetaRead). x.answer) is) h

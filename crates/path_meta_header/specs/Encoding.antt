@@ -1,6 +1,6 @@
 -- A meta header written: the draft's six fields as one number, and as bytes.
-use Rattle.std.specs.Prelude.{ℕ, ◌+◌, ◌*◌, ◌^◌, ◌≤◌, ◌<◌, ◌≡◌, List, Bool, ◌&&◌, ltb, eqb, length, get_or, take}
-use Rattle.wire_encoding.specs.Result.{Result, ok, refused, require, ◌>>◌}
+use Rattle.std.specs.Prelude.{ℕ, ◌+◌, ◌*◌, ◌^◌, ◌≤◌, ◌<◌, ◌≡◌, List, Bool, ◌&&◌, ltb, eqb, length, get_or, take, Result, Ok, Err}
+use Rattle.wire_encoding.specs.Result.{require, ◌>>◌}
 use Rattle.wire_encoding.specs.BigEndian.{big_endian, bytes_of}
 use Rattle.errors.specs.declared.packet_error.EncodeError.{EncodeError}
 use Rattle.errors.specs.declared.packet_error.EncodeError.TheVariants.{NumberTooWide, InadequateBufferSize}
@@ -29,27 +29,27 @@ word_of m =
 unfoldable pub as_word : PathMetaHeader → Result ℕ ℕ
 as_word m = do
   require (meta_fits m) 10
-  ok (word_of m)
+  Ok (word_of m)
 
 abbrev pub answer_word : Word → Result ℕ ℕ
-answer_word (word.Value n) = ok n
-answer_word word.TooWide = refused 10
+answer_word (word.Value n) = Ok n
+answer_word word.TooWide = Err 10
 
 -- what a destination of n bytes then holds; 01's order: a number too wide, another size
-unfoldable pub write_meta : PathMetaHeader → ℕ → Result EncodeError (List ℕ)
+unfoldable pub write_meta : PathMetaHeader → ℕ → Result (List ℕ) EncodeError
 write_meta m n = do
   require (meta_fits m) NumberTooWide
   require (eqb n meta_header_length) InadequateBufferSize
-  ok (bytes_of meta_header_length (word_of m))
+  Ok (bytes_of meta_header_length (word_of m))
 
 -- THEOREMS
 
 -- reading what was written: the header, by its rules
 abbrev pub MetaReadsBack : Type 0
 MetaReadsBack =
-    (m : PathMetaHeader) (n : ℕ) (written : List ℕ) → length m.segment_lengths ≡ 3 → write_meta m n ≡ ok written → read_meta written ≡ checked m
+    (m : PathMetaHeader) (n : ℕ) (written : List ℕ) → length m.segment_lengths ≡ 3 → write_meta m n ≡ Ok written → read_meta written ≡ checked m
 
 -- writing what was read: the bytes that were read
 abbrev pub MetaWritesAgain : Type 0
 MetaWritesAgain =
-    (bytes : List ℕ) → ((i : ℕ) → get_or bytes i 0 < 256) → 4 ≤ length bytes → write_meta (meta_of (big_endian 4 bytes 0)) 4 ≡ ok (take 4 bytes)
+    (bytes : List ℕ) → ((i : ℕ) → get_or bytes i 0 < 256) → 4 ≤ length bytes → write_meta (meta_of (big_endian 4 bytes 0)) 4 ≡ Ok (take 4 bytes)

@@ -1,6 +1,6 @@
 -- The draft's Path Meta Header: CurrINF (2 bits), CurrHF (6), RSV (6), Seg0Len, Seg1Len, Seg2Len (6 each); and what reading one finds.
-use Rattle.std.specs.Prelude.{ℕ, zero, suc, ◌+◌, ◌*◌, ◌-◌, ◌/◌, ◌%◌, ◌^◌, ◌<◌, ◌≡◌, List, [], ◌∷◌, Bool, true, cond, not, ◌&&◌, ◌||◌, get_or, ltb, eqb}
-use Rattle.wire_encoding.specs.Result.{Result, ok, refused, require, ◌>>◌, or_else}
+use Rattle.std.specs.Prelude.{ℕ, zero, suc, ◌+◌, ◌*◌, ◌-◌, ◌/◌, ◌%◌, ◌^◌, ◌<◌, ◌≡◌, List, [], ◌∷◌, Bool, true, cond, not, ◌&&◌, ◌||◌, get_or, ltb, eqb, Result, Ok, Err}
+use Rattle.wire_encoding.specs.Result.{require, ◌>>◌, or_else}
 use Rattle.wire_encoding.specs.BigEndian.{big_endian, room}
 use Rattle.path_fields.specs.Fields.{info_field_length, hop_field_length}
 use Rattle.path_meta_header.specs.declared.PathMetaHeader.{PathMetaHeader}
@@ -71,19 +71,19 @@ unfoldable pub path_length : PathMetaHeader → ℕ
 path_length m = hop_start m (hop_fields_count m)
 
 -- the same starts, 8 for a field that isn't there
-unfoldable pub info_field_offset : PathMetaHeader → ℕ → Result PathError ℕ
+unfoldable pub info_field_offset : PathMetaHeader → ℕ → Result ℕ PathError
 info_field_offset m k = do
   require (ltb k (info_fields_count m)) error.NoSuchField
-  ok (info_start k)
+  Ok (info_start k)
 
-unfoldable pub hop_field_offset : PathMetaHeader → ℕ → Result PathError ℕ
+unfoldable pub hop_field_offset : PathMetaHeader → ℕ → Result ℕ PathError
 hop_field_offset m j = do
   require (ltb j (hop_fields_count m)) error.NoSuchField
-  ok (hop_start m j)
+  Ok (hop_start m j)
 
-abbrev pub offset_found : Offset → Result PathError ℕ
-offset_found (offset.At start) = ok start
-offset_found offset.NoSuchField = refused error.NoSuchField
+abbrev pub offset_found : Offset → Result ℕ PathError
+offset_found (offset.At start) = Ok start
+offset_found offset.NoSuchField = Err error.NoSuchField
 
 -- INTERFACES by the header alone: the links inside segments. A peering path has one link more, between its segments, which the calls by
 -- bytes count (crate path_interfaces)
@@ -101,14 +101,14 @@ unfoldable pub link_end : PathMetaHeader → ℕ → ℕ
 link_end m i = i / 2 + i % 2 + segment_of_link m (i / 2)
 
 -- the same, 8 for an interface that isn't there
-unfoldable pub hop_field_of : PathMetaHeader → ℕ → Result PathError ℕ
+unfoldable pub hop_field_of : PathMetaHeader → ℕ → Result ℕ PathError
 hop_field_of m i = do
   require (ltb i (interfaces_count m)) error.NoSuchField
-  ok (link_end m i)
+  Ok (link_end m i)
 
-abbrev pub hop_field_found : HopFieldOf → Result PathError ℕ
-hop_field_found (hop.Index index) = ok index
-hop_field_found hop.NoSuchInterface = refused error.NoSuchField
+abbrev pub hop_field_found : HopFieldOf → Result ℕ PathError
+hop_field_found (hop.Index index) = Ok index
+hop_field_found hop.NoSuchInterface = Err error.NoSuchField
 
 -- READING
 
@@ -125,21 +125,21 @@ unfoldable pub hop_valid : PathMetaHeader → Bool
 hop_valid m = ltb m.current_hop_field (hop_fields_count m) && eqb (segment_of m m.current_hop_field) m.current_info_field
 
 -- the rules of a meta header, in 01's order
-unfoldable pub checked : PathMetaHeader → Result DecodeError PathMetaHeader
+unfoldable pub checked : PathMetaHeader → Result PathMetaHeader DecodeError
 checked m = do
   require (lengths_valid m) (InvalidPath InvalidSegmentLengths)
   require (info_valid m) (InvalidPath InfoFieldOutOfRange)
   require (hop_valid m) (InvalidPath HopFieldOutOfRange)
-  ok m
+  Ok m
 
 -- reading the meta header that begins bytes: 4 of them, then its rules
-unfoldable pub read_meta : List ℕ → Result DecodeError PathMetaHeader
+unfoldable pub read_meta : List ℕ → Result PathMetaHeader DecodeError
 read_meta bytes = do
   require (room bytes 0 meta_header_length) PacketEmptyOrTruncated
   checked (meta_of (big_endian meta_header_length bytes 0))
 
 -- what a reader hands back: a header of zeros where it is refused
-unfoldable pub meta_read : Result DecodeError PathMetaHeader → MetaRead
+unfoldable pub meta_read : Result PathMetaHeader DecodeError → MetaRead
 meta_read r = record { answer = decoded_of r; meta_header = or_else r (meta_of 0) }
 
 -- LINKS INSIDE SEGMENTS

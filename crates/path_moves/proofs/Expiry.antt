@@ -6,7 +6,8 @@ use mathlib.Core.Bool.{not}
 use mathlib.Core.List.{List}
 use native.Mathlib.Omega.{arith}
 use borrow.Author.Tests.{eqb-false, not-true}
-use Rattle.wire_encoding.specs.Result.{ok, mapped}
+use Rattle.std.specs.Prelude.{Ok}
+use Rattle.wire_encoding.specs.Result.{mapped}
 use Rattle.wire_encoding.proofs.Result.{held, stepped, mapped_ok}
 use Rattle.wire_encoding.proofs.Lists.{Bytes, bytes_of_lem}
 use Rattle.path.specs.Dataplane.{KeepsExpiry}
@@ -39,7 +40,7 @@ module _ (bytes : List ℕ) (small : Bytes bytes) where
       let made = walk_made bytes small m read.first limit in
       keeps bytes (iterate (walk_moves m limit) (moved 1) bytes) m there.left (known 1 bytes read.first).path
       (known 1 _ walking.able).path walking.lasts (mapped (λ (w : Way). w.bytes) (walk 1 bytes limit))
-      (ap (mapped (λ (w : Way). w.bytes)) made.is ∙ ap ok made.left) left h
+      (ap (mapped (λ (w : Way). w.bytes)) made.is ∙ ap Ok made.left) left h
 
 pub moves_keep_expiry : MovesKeepExpiry
 moves_keep_expiry bytes small = (move_keeps bytes (bytes_of_lem bytes small), walk_keeps bytes (bytes_of_lem bytes small))

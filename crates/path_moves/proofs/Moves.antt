@@ -10,7 +10,7 @@ use lib.Bits.{bit_xor, xor_zero_r}
 use lib.ListN.{length, take, get_or, set, length-set}
 use lib.Seq.{sets, drop-set-lt, length-sets, get_or-set_same, get_or-set_other}
 use borrow.Author.Tests.{ne_eqb}
-use Rattle.wire_encoding.specs.Result.{ok}
+use Rattle.std.specs.Prelude.{Ok}
 use Rattle.wire_encoding.proofs.Result.{held, stepped, same_value}
 use Rattle.wire_encoding.specs.BigEndian.{big_endian, bytes_of, placed}
 use Rattle.wire_encoding.proofs.Lists.{Bytes, sets_same}
@@ -202,7 +202,7 @@ pub record Standing (bytes : List ℕ) (m : PathMetaHeader) : Type 0 where
   pub whole : 4 + meta.info_fields_count m * 8 + meta.hop_fields_count m * 12 ≤ length bytes
 
 -- a path that can be moved and is not at its last hop field
-pub can_move : (bytes : List ℕ) (m : PathMetaHeader) → rules.movable 1 bytes ≡ ok m → (m.current_hop_field + 1 ≡ meta.hop_fields_count m → ⊥)
+pub can_move : (bytes : List ℕ) (m : PathMetaHeader) → rules.movable 1 bytes ≡ Ok m → (m.current_hop_field + 1 ≡ meta.hop_fields_count m → ⊥)
     → spec.CanMove bytes m
 can_move bytes m able other =
     record { able = able; before_last = omega (arith, other, (known 1 bytes able).path.sound_meta.hop) }
@@ -304,7 +304,7 @@ module _ (bytes : List ℕ) (m : PathMetaHeader) (can : spec.CanMove bytes m) wh
   path-moved b = path_kept bytes after m left able.path (moved_known b).path expiry_moved
 
   -- a single move, of type 1
-  pub one_move : spec.move 1 bytes ≡ ok after
+  pub one_move : spec.move 1 bytes ≡ Ok after
   unfolding spec.move spec.is_last
   one_move = rw (can.able, ne_eqb (m.current_hop_field + 1) (meta.hop_fields_count m) (λ e. omega (arith, can.before_last)))
 
@@ -315,7 +315,7 @@ module _ (bytes : List ℕ) (m : PathMetaHeader) (can : spec.CanMove bytes m) wh
 -- EVERY PATH
 
 -- the bytes that an accepted move leaves
-move-leaves : (type : ℕ) (bytes after : List ℕ) (m : PathMetaHeader) → rules.movable type bytes ≡ ok m → spec.move type bytes ≡ ok after
+move-leaves : (type : ℕ) (bytes after : List ℕ) (m : PathMetaHeader) → rules.movable type bytes ≡ Ok m → spec.move type bytes ≡ Ok after
     → spec.move_bytes bytes m ≡ after
 unfolding spec.move
 move-leaves type bytes after m able accepted =

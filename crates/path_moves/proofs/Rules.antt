@@ -8,7 +8,7 @@ use mathlib.Core.List.{List}
 use native.Mathlib.Omega.{arith}
 use lib.Dec.{leb, eqb}
 use borrow.Author.Tests.{le-leb, leb-true, eq-eqb, ne_eqb, eqb-true, eqb-false}
-use Rattle.wire_encoding.specs.Result.{ok}
+use Rattle.std.specs.Prelude.{Ok}
 use Rattle.wire_encoding.proofs.Result.{held, stepped}
 use Rattle.wire_encoding.proofs.Lists.{by_lt}
 use Rattle.path_fields.specs.Fields.{constructed_dir, peering}
@@ -30,13 +30,13 @@ pub record Known (bytes : List ℕ) (m : PathMetaHeader) : Type 0 where
   pub few : hop_fields_count m ≤ 64
   pub peering : peering_allowed bytes m ≡ true
 
-module _ (type : ℕ) (bytes : List ℕ) {m : PathMetaHeader} (h : movable type bytes ≡ ok m) where
+module _ (type : ℕ) (bytes : List ℕ) {m : PathMetaHeader} (h : movable type bytes ≡ Ok m) where
   -- its type is 1
   pub type_one : type ≡ 1
   unfolding movable
   type_one = standard_type bytes type (stepped (standard type bytes) _ h).first
 
-  pub movable-standard : standard type bytes ≡ ok m
+  pub movable-standard : standard type bytes ≡ Ok m
   unfolding movable
   movable-standard =
       let read = stepped (standard type bytes) _ h in
@@ -53,23 +53,23 @@ module _ (type : ℕ) (bytes : List ℕ) {m : PathMetaHeader} (h : movable type 
       rw (← same) (record { path = standard_readable bytes type read.first; few = leb-true _ _ few.0; peering = peering.0 })
 
 -- the other way round
-pub known_movable : (bytes : List ℕ) (m : PathMetaHeader) → Known bytes m → movable 1 bytes ≡ ok m
+pub known_movable : (bytes : List ℕ) (m : PathMetaHeader) → Known bytes m → movable 1 bytes ≡ Ok m
 unfolding movable
 known_movable bytes m k = rw (standard_read bytes m k.path, le-leb _ _ k.few, k.peering)
 
 -- as a function that called `movable` knows it
 module _ (type : ℕ) (bytes : List ℕ) {r : PathAnswer} (is : r ≡ path_answer (path_of type bytes) (movable type bytes)) (h : r.answer ≡ Accepted) where
   -- its record is that of the path
-  movable-path : (m : PathMetaHeader) → movable type bytes ≡ ok m → r.path ≡ path_under bytes m
+  movable-path : (m : PathMetaHeader) → movable type bytes ≡ Ok m → r.path ≡ path_under bytes m
   movable-path m able =
       answer_path (path_of type bytes) (movable type bytes) is (meta_of 0) h ∙ standard-path type bytes (movable-standard type bytes able)
 
-  pub movable_ok : movable type bytes ≡ ok r.path.meta_header
+  pub movable_ok : movable type bytes ≡ Ok r.path.meta_header
   movable_ok =
       let able = answer_value_lem (path_of type bytes) (movable type bytes) is (meta_of 0) h in
-      able ∙ ap ok (sym (ap (λ (path : StandardPath). path.meta_header) (movable-path _ able)))
+      able ∙ ap Ok (sym (ap (λ (path : StandardPath). path.meta_header) (movable-path _ able)))
 
-  pub goes_on : (type ≡ 1) × (movable 1 bytes ≡ ok r.path.meta_header) × (r.path.expiry ≡ path_expiry bytes r.path.meta_header)
+  pub goes_on : (type ≡ 1) × (movable 1 bytes ≡ Ok r.path.meta_header) × (r.path.expiry ≡ path_expiry bytes r.path.meta_header)
   goes_on =
       let one = type_one type bytes movable_ok in
       (one, rw one at movable_ok, ap (λ (path : StandardPath). path.expiry) (movable-path _ movable_ok))

@@ -14,7 +14,7 @@ use Rattle.wire_encoding.proofs.BigEndian.{bytes_bytes_of}
 use Rattle.wire_encoding.proofs.Lists.{Bytes, bytes_of_lem, bytes_set, bytes_sets}
 use Rattle.path_meta_header.specs.MetaHeader.{hop_fields_count, info_start}
 use Rattle.path_meta_header.specs.declared.PathMetaHeader.{PathMetaHeader}
-use Rattle.wire_encoding.specs.Result.{Result, ok, refused}
+use Rattle.std.specs.Prelude.{Result, Ok, Err}
 use Rattle.errors.specs.declared.path_error.PathError.{PathError}
 use Rattle.path_moves.specs.Moves.{CanMove, CountsAdd, Way, WalksAdd, applied, is_last, iterate, move_bytes, move_from, moved, moved_meta}
 use Rattle.path_moves.specs.Moves.{position_of, walk, walk_count, walk_moves, walked}
@@ -53,7 +53,7 @@ least-sum a b last hop = omega arith
 -- a walk that is accepted
 pub record Made (bytes : List ℕ) (m : PathMetaHeader) (limit : ℕ) : Type 0 where
   pub gone : Way
-  pub is : walk 1 bytes limit ≡ ok gone
+  pub is : walk 1 bytes limit ≡ Ok gone
   pub count : gone.moves ≡ walk_moves m limit
   pub left : gone.bytes ≡ iterate (walk_moves m limit) (moved 1) bytes
 
@@ -63,7 +63,7 @@ pub record After (bytes : List ℕ) (m : PathMetaHeader) (n : ℕ) : Type 0 wher
   pub walking : Walking bytes m (iterate n (moved 1) bytes) left (m.current_hop_field + n) n
   pub kept : Bytes (iterate n (moved 1) bytes)
 
-module _ (bytes : List ℕ) (small : Bytes bytes) (m : PathMetaHeader) (able : movable 1 bytes ≡ ok m) where
+module _ (bytes : List ℕ) (small : Bytes bytes) (m : PathMetaHeader) (able : movable 1 bytes ≡ Ok m) where
   pub after : (n : ℕ) → m.current_hop_field + n < hop_fields_count m → After bytes m n
   after zero h = record { left = m; walking = begin bytes m able (add-zero _); kept = small }
   after (suc n) h = go (after n (omega arith))
@@ -98,7 +98,7 @@ module _ (bytes : List ℕ) (small : Bytes bytes) (m : PathMetaHeader) (able : m
   unfolding walk_count walked
   walk_is limit = let made = walk_made limit in rw made.is (made.count, made.left)
 
-module _ (bytes : List ℕ) (small : Bytes bytes) (m : PathMetaHeader) (able : movable 1 bytes ≡ ok m) (a b : ℕ) where
+module _ (bytes : List ℕ) (small : Bytes bytes) (m : PathMetaHeader) (able : movable 1 bytes ≡ Ok m) (a b : ℕ) where
   -- what the first walk leaves
   first : After bytes m (walk_moves m a)
   unfolding walk_moves
@@ -123,9 +123,9 @@ sums : (bytes : List ℕ) → Bytes bytes → (type a b : ℕ) → CountAdds typ
 unfolding walk_count walked walk
 sums bytes small type a b = go (movable type bytes) refl
   where
-    go : (r : Result PathError PathMetaHeader) → movable type bytes ≡ r → CountAdds type bytes a b × BytesAdd type bytes a b
-    go (ok m) e = let one = type_one type bytes e in rw one (sums_movable bytes small m (rw one at e) a b)
-    go (refused error) e = rw e (rw e (refl, refl))
+    go : (r : Result PathMetaHeader PathError) → movable type bytes ≡ r → CountAdds type bytes a b × BytesAdd type bytes a b
+    go (Ok m) e = let one = type_one type bytes e in rw one (sums_movable bytes small m (rw one at e) a b)
+    go (Err error) e = rw e (rw e (refl, refl))
 
 pub walks_add : WalksAdd
 walks_add bytes small type a b = (sums bytes (bytes_of_lem bytes small) type a b).1

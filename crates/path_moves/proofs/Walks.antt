@@ -6,7 +6,7 @@ use mathlib.Core.List.{List}
 use native.Mathlib.Numerals.{add-one}
 use native.Mathlib.Omega.{arith}
 use lib.ListN.{length}
-use Rattle.wire_encoding.specs.Result.{ok}
+use Rattle.std.specs.Prelude.{Ok}
 use Rattle.wire_encoding.proofs.Lists.{Bytes}
 use Rattle.path_meta_header.specs.MetaHeader.{hop_fields_count}
 use Rattle.path_meta_header.specs.declared.PathMetaHeader.{PathMetaHeader}
@@ -21,7 +21,7 @@ use Rattle.path_moves.proofs.Rules.{known, known_movable}
 
 -- a walk that began at bytes₀, under m₀, stands at `bytes`, under m and at this hop field, after so many moves
 pub record Walking (bytes₀ : List ℕ) (m₀ : PathMetaHeader) (bytes : List ℕ) (m : PathMetaHeader) (hop moves : ℕ) : Type 0 where
-  pub able : movable 1 bytes ≡ ok m
+  pub able : movable 1 bytes ≡ Ok m
   pub made : bytes ≡ spec.iterate moves (spec.moved 1) bytes₀
   pub here : hop ≡ m.current_hop_field
   pub gone : hop ≡ m₀.current_hop_field + moves
@@ -30,7 +30,7 @@ pub record Walking (bytes₀ : List ℕ) (m₀ : PathMetaHeader) (bytes : List �
   pub inside : hop < hop_fields_count m₀
   pub len : length bytes ≡ length bytes₀
 
-pub begin : (bytes : List ℕ) (m : PathMetaHeader) {hop : ℕ} → movable 1 bytes ≡ ok m → hop ≡ m.current_hop_field → Walking bytes m bytes m hop 0
+pub begin : (bytes : List ℕ) (m : PathMetaHeader) {hop : ℕ} → movable 1 bytes ≡ Ok m → hop ≡ m.current_hop_field → Walking bytes m bytes m hop 0
 begin bytes m able e =
     let below = (known 1 bytes able).path.sound_meta.hop in
     record { able = able; made = refl; here = e; gone = omega arith; count = refl; lasts = refl; inside = omega arith; len = refl }
@@ -58,7 +58,7 @@ module _ (bytes₀ : List ℕ) (m₀ : PathMetaHeader) (bytes : List ℕ) (m : P
       })
 
   -- what `steps` hands back
-  pub stands : movable 1 bytes₀ ≡ ok m₀
+  pub stands : movable 1 bytes₀ ≡ Ok m₀
       → (path_of 1 (spec.iterate moves (spec.moved 1) bytes₀) ≡ record { meta_header = m; expiry = (path_of 1 bytes₀).expiry })
       × (bytes ≡ spec.iterate moves (spec.moved 1) bytes₀)
   stands able₀ =
@@ -66,8 +66,8 @@ module _ (bytes₀ : List ℕ) (m₀ : PathMetaHeader) (bytes : List ℕ) (m : P
       (rw (← w.made, path_of_lem bytes₀ m₀ path₀) (path_kept bytes₀ bytes m₀ m path₀ (known 1 bytes w.able).path w.lasts), w.made)
 
 -- a walk of n moves
-pub way : (bytes : List ℕ) (m : PathMetaHeader) (limit : ℕ) → movable 1 bytes ≡ ok m → {n : ℕ} → n ≡ spec.walk_moves m limit
+pub way : (bytes : List ℕ) (m : PathMetaHeader) (limit : ℕ) → movable 1 bytes ≡ Ok m → {n : ℕ} → n ≡ spec.walk_moves m limit
     → spec.walk 1 bytes limit
-    ≡ ok (record { bytes = spec.iterate n (spec.moved 1) bytes; moves = n; arrived = spec.is_last m (m.current_hop_field + n) })
+    ≡ Ok (record { bytes = spec.iterate n (spec.moved 1) bytes; moves = n; arrived = spec.is_last m (m.current_hop_field + n) })
 unfolding spec.walk
 way bytes m limit able en = rw (able, ← en)

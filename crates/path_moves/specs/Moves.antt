@@ -1,9 +1,9 @@
 -- Moves (the draft's processing at routers, seen from hop field to hop field): a single move, a walk, what they hand back, and what
 -- hop field i meets by the path alone. Move, walk, owner and spared are document 01's words.
-use Rattle.std.specs.Prelude.{ℕ, zero, suc, ◌+◌, ◌-◌, ◌*◌, ◌<◌, min, ◌≡◌, Bool, true, false, not, ◌&&◌, cond, List, [], length, get_or, set, eqb}
+use Rattle.std.specs.Prelude.{ℕ, zero, suc, ◌+◌, ◌-◌, ◌*◌, ◌<◌, min, ◌≡◌, Bool, true, false, not, ◌&&◌, cond, List, [], length, get_or, set, eqb, Result, Ok}
 use Rattle.std.proofs.lemmas.List.Edits.{sets}
 use Rattle.std.specs.Int.Bits.{bit_xor}
-use Rattle.wire_encoding.specs.Result.{Result, ok, require, ◌>>◌, ◌>>=◌, mapped, or_else}
+use Rattle.wire_encoding.specs.Result.{require, ◌>>◌, ◌>>=◌, mapped, or_else}
 use Rattle.wire_encoding.specs.BigEndian.{big_endian, bytes_of}
 use Rattle.path_fields.specs.declared.InfoField.{InfoField}
 use Rattle.path_meta_header.specs.MetaHeader.{segment_length, hop_fields_count, segment_of, first_hop_field, info_start, hop_start}
@@ -48,11 +48,11 @@ unfoldable pub is_last : PathMetaHeader → ℕ → Bool
 is_last m h = eqb (h + 1) (hop_fields_count m)
 
 -- a single move: the bytes that it leaves; 15 at the last hop field
-unfoldable pub move : ℕ → List ℕ → Result PathError (List ℕ)
+unfoldable pub move : ℕ → List ℕ → Result (List ℕ) PathError
 move type bytes = do
   m ← movable type bytes
   require (not (is_last m m.current_hop_field)) AtLastHopField
-  ok (move_bytes bytes m)
+  Ok (move_bytes bytes m)
 
 -- a refusal changes nothing
 unfoldable pub moved : ℕ → List ℕ → List ℕ
@@ -73,11 +73,11 @@ pub record Way : Type 0 where
   pub moves : ℕ
   pub arrived : Bool
 
-unfoldable pub walk : ℕ → List ℕ → ℕ → Result PathError Way
+unfoldable pub walk : ℕ → List ℕ → ℕ → Result Way PathError
 walk type bytes limit = do
   m ← movable type bytes
   let n = walk_moves m limit
-  ok (record { bytes = iterate n (moved type) bytes; moves = n; arrived = is_last m (m.current_hop_field + n) })
+  Ok (record { bytes = iterate n (moved type) bytes; moves = n; arrived = is_last m (m.current_hop_field + n) })
 
 -- the bytes that a walk leaves; a refusal changes nothing
 unfoldable pub walked : ℕ → List ℕ → ℕ → List ℕ
@@ -88,7 +88,7 @@ unfoldable pub walk_count : ℕ → List ℕ → ℕ → ℕ
 walk_count type bytes limit = or_else (mapped (λ (w : Way). w.moves) (walk type bytes limit)) 0
 
 -- what is handed back of it, beside the record of the path that it leaves: all zero where it is refused
-unfoldable pub walk_answer : ℕ → Result PathError Way → WalkAnswer
+unfoldable pub walk_answer : ℕ → Result Way PathError → WalkAnswer
 walk_answer type r =
     let way = or_else r (record { bytes = []; moves = 0; arrived = false }) in
     record { answer = answer_of r; path = path_left type (mapped (λ (w : Way). w.bytes) r); moves = way.moves; arrived = way.arrived }
@@ -120,7 +120,7 @@ accumulator_by b i =
 -- "all else stays": a move leaves every byte but the first and, where a code is taken in, the two of its segment's accumulator
 abbrev pub AllElseStays : Type 0
 AllElseStays =
-    (type : ℕ) (bytes after : List ℕ) (m : PathMetaHeader) → movable type bytes ≡ ok m → move type bytes ≡ ok after
+    (type : ℕ) (bytes after : List ℕ) (m : PathMetaHeader) → movable type bytes ≡ Ok m → move type bytes ≡ Ok after
     → (length after ≡ length bytes)
     × ((j : ℕ) → (j ≡ 0 → ⊥)
     → (takes_in bytes m m.current_info_field m.current_hop_field ≡ true
@@ -188,5 +188,5 @@ moved_meta bytes m = at_position m (move_from bytes m (position_of m)).position
 
 -- a path that can be moved stands in the bytes under this header, and is not at its last hop field
 pub record CanMove (bytes : List ℕ) (m : PathMetaHeader) : Type 0 where
-  pub able : movable 1 bytes ≡ ok m
+  pub able : movable 1 bytes ≡ Ok m
   pub before_last : m.current_hop_field + 1 < hop_fields_count m

@@ -1,7 +1,7 @@
 -- The rules of moves (the draft's processing at routers): whose code a move takes in, and which paths can be moved.
 -- Move, owner and spared are document 01's words.
-use Rattle.std.specs.Prelude.{ℕ, zero, suc, ◌+◌, Bool, false, cond, not, ◌&&◌, ◌||◌, List, leb, eqb}
-use Rattle.wire_encoding.specs.Result.{Result, ok, require, ◌>>◌, ◌>>=◌}
+use Rattle.std.specs.Prelude.{ℕ, zero, suc, ◌+◌, Bool, false, cond, not, ◌&&◌, ◌||◌, List, leb, eqb, Result, Ok}
+use Rattle.wire_encoding.specs.Result.{require, ◌>>◌, ◌>>=◌}
 use Rattle.path_fields.specs.Fields.{constructed_dir, peering}
 use Rattle.path_fields.specs.declared.InfoField.{InfoField}
 use Rattle.path_meta_header.specs.MetaHeader.{info_fields_count, hop_fields_count}
@@ -29,9 +29,9 @@ unfoldable pub peering_allowed : List ℕ → PathMetaHeader → Bool
 peering_allowed bytes m = not (some_peering bytes (info_fields_count m)) || peering_path bytes m
 
 -- where moves and walks begin: reading, 8 for every type but 1, 13, 14
-unfoldable pub movable : ℕ → List ℕ → Result PathError PathMetaHeader
+unfoldable pub movable : ℕ → List ℕ → Result PathMetaHeader PathError
 movable type bytes = do
   m ← standard type bytes
   require (leb (hop_fields_count m) 64) TooManyHopFields
   require (peering_allowed bytes m) PeeringNotOnBoth
-  ok m
+  Ok m

@@ -10,7 +10,8 @@ use lib.Dec.{eqb}
 use lib.ListN.{length, take, drop, drop_of_length-le}
 use lib.Seq.{length-take-le, take_all}
 use borrow.Author.Tests.{eqb-true, eqb-false, eq-eqb, ne_eqb}
-use Rattle.wire_encoding.specs.Result.{Result, ok, refused, and_then, refusing}
+use Rattle.std.specs.Prelude.{Result, Ok, Err}
+use Rattle.wire_encoding.specs.Result.{and_then, refusing}
 use Rattle.wire_encoding.specs.BigEndian.{big_endian}
 use Rattle.wire_encoding.proofs.Result.{stepped, refusing_ok}
 use Rattle.errors.specs.declared.packet_error.DecodeError.{DecodeError}
@@ -42,35 +43,35 @@ none l h = sym (take_all 0 l (omega arith))
 record Writes (call : Call) (written : Bytes) : Type 0 where
   made : (type : ℕ) (bytes dst : List ℕ)
       → call type bytes dst ≡ and_then (refusing Decode (read_dataplane type bytes)) (λ (read : Extent). into (written type read bytes) dst)
-  long : (type : ℕ) (bytes : List ℕ) (read : Extent) → read_dataplane type bytes ≡ ok read
+  long : (type : ℕ) (bytes : List ℕ) (read : Extent) → read_dataplane type bytes ≡ Ok read
       → length (written type read bytes) ≡ read.length
   header : PathMetaHeader → PathMetaHeader
-  there : (bytes : List ℕ) (read : Extent) → read_dataplane 1 bytes ≡ ok read
+  there : (bytes : List ℕ) (read : Extent) → read_dataplane 1 bytes ≡ Ok read
       → Readable (written 1 read bytes) (header read.path.meta_header)
 
 module _ (call : Call) (written : Bytes) (c : Writes call written) where
-  enough : (type : ℕ) (bytes dst : List ℕ) (read : Extent) → read_dataplane type bytes ≡ ok read → read.length ≤ length dst
-      → call type bytes dst ≡ ok (put_in_front (written type read bytes) dst read.length)
+  enough : (type : ℕ) (bytes dst : List ℕ) (read : Extent) → read_dataplane type bytes ≡ Ok read → read.length ≤ length dst
+      → call type bytes dst ≡ Ok (put_in_front (written type read bytes) dst read.length)
   enough type bytes dst read h room = c.made type bytes dst ∙ rw h (into_enough (written type read bytes) dst (c.long type bytes read h) room)
 
-  fewer : (type : ℕ) (bytes dst : List ℕ) (read : Extent) → read_dataplane type bytes ≡ ok read → length dst < read.length
-      → call type bytes dst ≡ refused InadequateBufferSize
+  fewer : (type : ℕ) (bytes dst : List ℕ) (read : Extent) → read_dataplane type bytes ≡ Ok read → length dst < read.length
+      → call type bytes dst ≡ Err InadequateBufferSize
   fewer type bytes dst read h short = c.made type bytes dst ∙ rw h (into_fewer (written type read bytes) dst (c.long type bytes read h) short)
 
-  empty : (bytes dst : List ℕ) → call 0 bytes dst ≡ ok (record { length = 0; left = dst })
+  empty : (bytes dst : List ℕ) → call 0 bytes dst ≡ Ok (record { length = 0; left = dst })
   unfolding read_dataplane
   empty bytes dst =
       enough 0 bytes dst (unread 0) refl (omega arith)
-      ∙ ap (λ (run : List ℕ). ok (record { length = 0; left = run ++ dst }))
+      ∙ ap (λ (run : List ℕ). Ok (record { length = 0; left = run ++ dst }))
       (none (written 0 (unread 0) bytes) (c.long 0 bytes (unread 0) refl))
 
   -- what was accepted was written by `into`
-  by_into : (type : ℕ) (bytes dst : List ℕ) (read : Extent) {w : Written} → read_dataplane type bytes ≡ ok read
-      → call type bytes dst ≡ ok w → into (written type read bytes) dst ≡ ok w
+  by_into : (type : ℕ) (bytes dst : List ℕ) (read : Extent) {w : Written} → read_dataplane type bytes ≡ Ok read
+      → call type bytes dst ≡ Ok w → into (written type read bytes) dst ≡ Ok w
   by_into type bytes dst read h done = rw h at (sym (c.made type bytes dst) ∙ done)
 
-  in_front : (type : ℕ) (bytes dst : List ℕ) (read : Extent) (w : Written) → read_dataplane type bytes ≡ ok read
-      → call type bytes dst ≡ ok w
+  in_front : (type : ℕ) (bytes dst : List ℕ) (read : Extent) (w : Written) → read_dataplane type bytes ≡ Ok read
+      → call type bytes dst ≡ Ok w
       → (front w ≡ written type read bytes) × (drop w.length w.left ≡ drop w.length dst) × (length w.left ≡ length dst)
   in_front type bytes dst read w h done =
       let run : List ℕ = written type read bytes in
@@ -81,22 +82,22 @@ module _ (call : Call) (written : Bytes) (c : Writes call written) where
 
   module _ (type : ℕ) (bytes dst : List ℕ) where
     -- the answers and the contents of both rules, where each of them gives this
-    abbrev Alike : Result PathError Written → Result PathError (List ℕ) → Type 0
+    abbrev Alike : Result Written PathError → Result (List ℕ) PathError → Type 0
     Alike r s = (without_length (written_path type r) ≡ written_answer type s) × (contents_after r dst ≡ contents s dst)
 
-    alike : {r : Result PathError Written} {s : Result PathError (List ℕ)} → call type bytes dst ≡ r
+    alike : {r : Result Written PathError} {s : Result (List ℕ) PathError} → call type bytes dst ≡ r
         → exactly written type bytes dst ≡ s → Alike r s → Alike (call type bytes dst) (exactly written type bytes dst)
     alike e f same = rw (e, f) same
 
-    both_refused : (error : PathError) → Alike (refused error) (refused error)
+    both_refused : (error : PathError) → Alike (Err error) (Err error)
     unfolding written_path written_answer
     both_refused error = (refl, refl)
 
-    both_written : (w : Written) (left : List ℕ) → path_of type (front w) ≡ path_of type left → w.left ≡ left → Alike (ok w) (ok left)
+    both_written : (w : Written) (left : List ℕ) → path_of type (front w) ≡ path_of type left → w.left ≡ left → Alike (Ok w) (Ok left)
     unfolding written_path written_answer
     both_written w left path same = (rw path, same)
 
-    module _ (read : Extent) (h : read_dataplane type bytes ≡ ok read) where
+    module _ (read : Extent) (h : read_dataplane type bytes ≡ Ok read) where
       abbrev run : List ℕ
       run = written type read bytes
 
@@ -139,13 +140,13 @@ module _ (call : Call) (written : Bytes) (c : Writes call written) where
     unfolding exactly
     as_before fits = go (read_dataplane type bytes) refl
       where
-        go : (r : Result DecodeError Extent) → read_dataplane type bytes ≡ r → Alike (call type bytes dst) (exactly written type bytes dst)
-        go (ok read) h = alike_read read h (fits read h)
-        go (refused error) h = alike (c.made type bytes dst ∙ rw h) (rw h) (both_refused (Decode error))
+        go : (r : Result Extent DecodeError) → read_dataplane type bytes ≡ r → Alike (call type bytes dst) (exactly written type bytes dst)
+        go (Ok read) h = alike_read read h (fits read h)
+        go (Err error) h = alike (c.made type bytes dst ∙ rw h) (rw h) (both_refused (Decode error))
 
   -- READ AS A WHOLE
 
-  read_whole : (bytes dst : List ℕ) (w : Written) → call 1 bytes dst ≡ ok w → read_record w.left ≡ read_record (front w)
+  read_whole : (bytes dst : List ℕ) (w : Written) → call 1 bytes dst ≡ Ok w → read_record w.left ≡ read_record (front w)
   read_whole bytes dst w done =
       let found = stepped (refusing Decode (read_dataplane 1 bytes)) _ (sym (c.made 1 bytes dst) ∙ done) in
       let read = refusing_ok Decode (read_dataplane 1 bytes) found.first in
@@ -170,12 +171,12 @@ module _ (call : Call) (written : Bytes) (c : Writes call written) where
 -- THE TWO CALLS
 
 -- reading says no more bytes than there are
-own_long : (type : ℕ) (bytes : List ℕ) (read : Extent) → read_dataplane type bytes ≡ ok read
+own_long : (type : ℕ) (bytes : List ℕ) (read : Extent) → read_dataplane type bytes ≡ Ok read
     → length (own_bytes type read bytes) ≡ read.length
 unfolding dataplane_read
 own_long type bytes read h = length-take-le read.length bytes (rw h at (length_inside bytes type))
 
-reversed_long : (type : ℕ) (bytes : List ℕ) (read : Extent) → read_dataplane type bytes ≡ ok read
+reversed_long : (type : ℕ) (bytes : List ℕ) (read : Extent) → read_dataplane type bytes ≡ Ok read
     → length (reversed_bytes type read bytes) ≡ read.length
 unfolding reversed_bytes
 reversed_long type bytes read h = go (eqb type 1) refl
@@ -221,7 +222,7 @@ longest-path bytes read h =
     rw (s.long, s.known.word) (omega (arith, length_read (big_endian 4 bytes 0)))
 
 -- ABOVE THE PATH'S LENGTH THE TWO RULES PART: two bytes into three
-pub parted : (exactly own_bytes 7 (1 ∷ 2 ∷ []) (9 ∷ 9 ∷ 9 ∷ []) ≡ refused InadequateBufferSize)
-    × (copy 7 (1 ∷ 2 ∷ []) (9 ∷ 9 ∷ 9 ∷ []) ≡ ok (record { length = 2; left = 1 ∷ 2 ∷ 9 ∷ [] }))
+pub parted : (exactly own_bytes 7 (1 ∷ 2 ∷ []) (9 ∷ 9 ∷ 9 ∷ []) ≡ Err InadequateBufferSize)
+    × (copy 7 (1 ∷ 2 ∷ []) (9 ∷ 9 ∷ 9 ∷ []) ≡ Ok (record { length = 2; left = 1 ∷ 2 ∷ 9 ∷ [] }))
 unfolding exactly copy into read_dataplane
 parted = (refl, refl)

@@ -4,7 +4,7 @@ use mathlib.Core.Path.{◌≡◌, refl}
 use mathlib.Core.List.{List, [], ◌∷◌, ◌++◌, flat_map}
 use Prim.Native.Nat.{ℕ}
 use lib.ListN.{replicate}
-use Rattle.wire_encoding.specs.Result.{ok, refused}
+use Rattle.std.specs.Prelude.{Ok, Err}
 use Rattle.wire_encoding.specs.BigEndian.{big_endian, bytes_of, room, records}
 use Rattle.wire_encoding.specs.Bits.{with_bit}
 use Rattle.path_meta_header.specs.MetaHeader as meta
@@ -56,9 +56,9 @@ three_segments_reversed =
 pub examples : (copy.contents_after (reverse.reverse 1 one_segment (replicate 36 0)) [] ≡ one_segment_reversed)
     × ((copy.contents_after (reverse.reverse 1 two_segments (replicate 56 0)) [] ≡ two_segments_reversed)
     × ((copy.contents_after (reverse.reverse 1 three_segments (replicate 76 0)) [] ≡ three_segments_reversed)
-    × ((reverse.reverse 1 one_segment (replicate 38 9) ≡ ok (record { length = 36; left = one_segment_reversed ++ (9 ∷ 9 ∷ []) }))
-    × ((reverse.reverse 1 one_segment (replicate 35 9) ≡ refused InadequateBufferSize)
-    × (reverse.reverse 7 (1 ∷ 2 ∷ 3 ∷ []) (replicate 5 9) ≡ ok (record { length = 3; left = 1 ∷ 2 ∷ 3 ∷ 9 ∷ 9 ∷ [] }))))))
+    × ((reverse.reverse 1 one_segment (replicate 38 9) ≡ Ok (record { length = 36; left = one_segment_reversed ++ (9 ∷ 9 ∷ []) }))
+    × ((reverse.reverse 1 one_segment (replicate 35 9) ≡ Err InadequateBufferSize)
+    × (reverse.reverse 7 (1 ∷ 2 ∷ 3 ∷ []) (replicate 5 9) ≡ Ok (record { length = 3; left = 1 ∷ 2 ∷ 3 ∷ 9 ∷ 9 ∷ [] }))))))
 unfolding one_segment two_segments three_segments one_segment_reversed two_segments_reversed three_segments_reversed big_endian bytes_of room with_bit
     meta.nth_field meta.meta_of meta.info_fields_count meta.hop_fields_count meta.segment_of meta.path_length meta.lengths_valid meta.info_valid meta.hop_valid
     meta.checked meta.read_meta encoding.word_of reversal.at_start reversal.reversed_lengths reversal.reversed_meta standard.read_path

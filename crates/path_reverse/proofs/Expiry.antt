@@ -11,7 +11,8 @@ use lib.Dec.{eqb}
 use lib.ListN.{length, take, get_or}
 use lib.Seq.{get_or-take, length-take-le}
 use borrow.Author.Tests.{eqb-true, eqb-false}
-use Rattle.wire_encoding.specs.Result.{ok, mapped, refusing}
+use Rattle.std.specs.Prelude.{Ok}
+use Rattle.wire_encoding.specs.Result.{mapped, refusing}
 use Rattle.wire_encoding.proofs.Result.{same_value, stepped, refusing_ok, mapped_ok}
 use Rattle.wire_encoding.proofs.Lists.{get_or_part}
 use Rattle.errors.specs.declared.path_error.PathError.TheVariants.{Decode}
@@ -139,7 +140,7 @@ pub record Standard (bytes : List ℕ) (read : Extent) : Type 0 where
   pub known : Readable bytes read.path.meta_header
   pub long : read.length ≡ path_length read.path.meta_header
 
-pub standard : (bytes : List ℕ) {read : Extent} → read_dataplane 1 bytes ≡ ok read → Standard bytes read
+pub standard : (bytes : List ℕ) {read : Extent} → read_dataplane 1 bytes ≡ Ok read → Standard bytes read
 unfolding read_dataplane
 standard bytes h =
     let found = stepped (read_record bytes) _ h in
@@ -148,7 +149,7 @@ standard bytes h =
 -- THE RECORD THAT A CALL HANDS BACK
 
 -- of a path that is reversed: the reversed header, and the expiry that was stored
-pub path_reversed : (bytes : List ℕ) {path : StandardPath} → read_record bytes ≡ ok path
+pub path_reversed : (bytes : List ℕ) {path : StandardPath} → read_record bytes ≡ Ok path
     → path_of 1 (reversed_path path.meta_header bytes) ≡ record { meta_header = reversed_meta path.meta_header; expiry = path.expiry }
 path_reversed bytes {path} h =
     let m = path.meta_header in
@@ -158,7 +159,7 @@ path_reversed bytes {path} h =
     ∙ ap (λ (p : StandardPath). record { meta_header = reversed_meta m; expiry = p.expiry }) (sym read.1)
 
 -- of a path that is copied: the record of what was read
-standard_copied : (bytes : List ℕ) {read : Extent} → read_dataplane 1 bytes ≡ ok read → path_of 1 (take read.length bytes) ≡ path_of 1 bytes
+standard_copied : (bytes : List ℕ) {read : Extent} → read_dataplane 1 bytes ≡ Ok read → path_of 1 (take read.length bytes) ≡ path_of 1 bytes
 standard_copied bytes {read} h =
     let m = read.path.meta_header in
     let s = standard bytes h in
@@ -167,7 +168,7 @@ standard_copied bytes {read} h =
     ∙ path_kept bytes (take (path_length m) bytes) m m r (copied_readable bytes m r) (expiry_copied bytes m r)
     ∙ sym (path_of_lem bytes m r)
 
-pub path_copied : (type : ℕ) (bytes : List ℕ) {read : Extent} → read_dataplane type bytes ≡ ok read
+pub path_copied : (type : ℕ) (bytes : List ℕ) {read : Extent} → read_dataplane type bytes ≡ Ok read
     → path_of type (take read.length bytes) ≡ path_of type bytes
 path_copied type bytes {read} h = go (eqb type 1) refl
   where
@@ -193,7 +194,7 @@ copy_keeps_expiry bytes dst left h =
     let made : own ≡ left =
     ap (λ (n : ℕ). take n bytes) (sym s.long)
     ∙ sym (front_is (take read.value.length bytes) dst read.then) ∙ same_value call.then in
-    keeps bytes own m m r (copied_readable bytes m r) (expiry_copied bytes m r) (mapped front (copy 1 bytes dst)) (h ∙ ap ok (sym made)) left h
+    keeps bytes own m m r (copied_readable bytes m r) (expiry_copied bytes m r) (mapped front (copy 1 bytes dst)) (h ∙ ap Ok (sym made)) left h
 
 pub reversal_keeps_expiry : ReversalKeepsExpiry
 unfolding reverse reversed_bytes
@@ -206,4 +207,4 @@ reversal_keeps_expiry bytes dst left h =
     let y : List ℕ = reversed_path m bytes in
     let made : y ≡ left = sym (front_is y dst read.then) ∙ same_value call.then in
     keeps bytes y m (reversed_meta m) r (reversed_readable bytes m r) (expiry_reversed bytes m r) (mapped front (reverse 1 bytes dst))
-    (h ∙ ap ok (sym made)) left h
+    (h ∙ ap Ok (sym made)) left h

@@ -25,7 +25,7 @@ use Rattle.path_meta_header.specs.Encoding.{meta_fits, word_of}
 use Rattle.path_meta_header.specs.declared.PathMetaHeader.{PathMetaHeader}
 use Rattle.errors.specs.declared.packet_error.DecodeError.{DecodeError}
 use Rattle.errors.specs.declared.path_error.PathError.TheVariants.{Decode, InadequateBufferSize}
-use Rattle.wire_encoding.specs.Result.{ok, refused}
+use Rattle.std.specs.Prelude.{Ok, Err}
 use Rattle.path.specs.Standard.{read_record}
 use Rattle.path.specs.Dataplane.{read_dataplane}
 use Rattle.path.proofs.Reading.{Readable, record_read}
@@ -262,7 +262,7 @@ reverse_copies type bytes dst other = rw (ne_eqb type 1 other)
 
 -- a standard path, by what reading finds and by the size
 module _ (bytes dst : List ℕ) where
-  pub reverse_refused : {error : DecodeError} → read_record bytes ≡ refused error → reverse 1 bytes dst ≡ refused (Decode error)
+  pub reverse_refused : {error : DecodeError} → read_record bytes ≡ Err error → reverse 1 bytes dst ≡ Err (Decode error)
   unfolding reverse read_dataplane
   reverse_refused h = rw h
 
@@ -273,10 +273,10 @@ module _ (bytes dst : List ℕ) where
     pub front_reversed : take (path_length m) (reversed_path m bytes ++ drop (path_length m) dst) ≡ reversed_path m bytes
     front_reversed = front_run (reversed_path m bytes) dst long
 
-    pub reverse_enough : path_length m ≤ length dst → reverse 1 bytes dst ≡ ok (put_in_front (reversed_path m bytes) dst (path_length m))
+    pub reverse_enough : path_length m ≤ length dst → reverse 1 bytes dst ≡ Ok (put_in_front (reversed_path m bytes) dst (path_length m))
     unfolding reverse reversed_bytes read_dataplane
     reverse_enough room = rw (record_read bytes m r, into_enough (reversed_path m bytes) dst long room)
 
-    pub reverse_fewer : length dst < path_length m → reverse 1 bytes dst ≡ refused InadequateBufferSize
+    pub reverse_fewer : length dst < path_length m → reverse 1 bytes dst ≡ Err InadequateBufferSize
     unfolding reverse reversed_bytes read_dataplane
     reverse_fewer short = rw (record_read bytes m r, into_fewer (reversed_path m bytes) dst long short)

@@ -1,7 +1,7 @@
 -- A path of any type written into a destination, and copying. Document 01's order for turning and copying: reading, then 9; request
 -- 2026-08: 9 only where the destination is shorter than the path.
-use Rattle.std.specs.Prelude.{ℕ, List, ◌++◌, length, take, drop, leb}
-use Rattle.wire_encoding.specs.Result.{Result, ok, require, ◌>>◌, ◌>>=◌, mapped, or_else, refusing}
+use Rattle.std.specs.Prelude.{ℕ, List, ◌++◌, length, take, drop, leb, Result, Ok}
+use Rattle.wire_encoding.specs.Result.{require, ◌>>◌, ◌>>=◌, mapped, or_else, refusing}
 use Rattle.errors.specs.Errors.{answer_of}
 use Rattle.errors.specs.declared.path_error.PathError.{PathError}
 use Rattle.errors.specs.declared.path_error.PathError.TheVariants.{Decode, InadequateBufferSize}
@@ -14,12 +14,12 @@ pub record Written : Type 0 where
   pub left : List ℕ
 
 -- a path's bytes into a destination of at least their length, "writing the front and leaving the remainder"; "9 remains for fewer"
-unfoldable pub into : List ℕ → List ℕ → Result PathError Written
+unfoldable pub into : List ℕ → List ℕ → Result Written PathError
 into run dst = do
   require (leb (length run) (length dst)) InadequateBufferSize
-  ok (record { length = length run; left = run ++ drop (length run) dst })
+  Ok (record { length = length run; left = run ++ drop (length run) dst })
 
-unfoldable pub copy : ℕ → List ℕ → List ℕ → Result PathError Written
+unfoldable pub copy : ℕ → List ℕ → List ℕ → Result Written PathError
 copy type bytes dst = do
   read ← refusing Decode (read_dataplane type bytes)
   into (take read.length bytes) dst
@@ -29,11 +29,11 @@ abbrev pub front : Written → List ℕ
 front written = take written.length written.left
 
 -- what the destination holds after the call; a refusal changes nothing
-abbrev pub contents_after : Result PathError Written → List ℕ → List ℕ
+abbrev pub contents_after : Result Written PathError → List ℕ → List ℕ
 contents_after r dst = contents (mapped (λ (written : Written). written.left) r) dst
 
 -- what is handed out: the answer, the record of the front, and its length; zeros where the call is refused
-unfoldable pub written_path : ℕ → Result PathError Written → WrittenPath
+unfoldable pub written_path : ℕ → Result Written PathError → WrittenPath
 written_path type r =
     record {
       answer = answer_of r;

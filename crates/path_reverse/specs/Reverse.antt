@@ -1,8 +1,8 @@
 -- The draft's Path Reversal (document 01's turn): segments, Info Fields and Hop Fields in opposite order, each Construction
 -- Direction flag flipped, CurrINF, CurrHF and RSV zero.
-use Rattle.std.specs.Prelude.{ℕ, ◌-◌, ◌≤◌, ◌≡◌, true, not, cond, take, drop, eqb}
+use Rattle.std.specs.Prelude.{ℕ, ◌-◌, ◌≤◌, ◌≡◌, true, not, cond, take, drop, eqb, Result, Ok}
 use mathlib.Core.List.{List, [], ◌∷◌, ◌++◌, flat_map, reverse as reversed}
-use Rattle.wire_encoding.specs.Result.{Result, ok, ◌>>=◌, mapped, refusing}
+use Rattle.wire_encoding.specs.Result.{◌>>=◌, mapped, refusing}
 use Rattle.wire_encoding.specs.Bits.{bit_of, with_bit}
 use Rattle.wire_encoding.specs.BigEndian.{bytes_of, part, records}
 use Rattle.path_meta_header.specs.MetaHeader.{meta_header_length, info_fields_count, hop_fields_count, info_start, hop_fields_start, path_length}
@@ -44,12 +44,12 @@ reversed_path m bytes = reversed_under (reversed_meta m) m bytes
 -- a theorem: it expires when the path does, for the least over the segments in opposite order is the least
 abbrev pub ReversedExpiry : Type 0
 ReversedExpiry =
-    (bytes : List ℕ) (m : PathMetaHeader) → read_path bytes ≡ ok m → path_expiry (reversed_path m bytes) (reversed_meta m) ≡ path_expiry bytes m
+    (bytes : List ℕ) (m : PathMetaHeader) → read_path bytes ≡ Ok m → path_expiry (reversed_path m bytes) (reversed_meta m) ≡ path_expiry bytes m
 
 -- reversed twice: the path that was read, with its pointers at the start and its reserved bits zero
 abbrev pub ReversedTwice : Type 0
 ReversedTwice =
-    (bytes : List ℕ) (m : PathMetaHeader) → read_path bytes ≡ ok m
+    (bytes : List ℕ) (m : PathMetaHeader) → read_path bytes ≡ Ok m
     → reversed_path (reversed_meta m) (reversed_path m bytes)
     ≡ bytes_of meta_header_length (word_of (at_start m.segment_lengths)) ++ part (info_start 0) (path_length m - meta_header_length) bytes
 
@@ -63,7 +63,7 @@ pub record Reversible (m : PathMetaHeader) (source destination : ℕ) : Type 0 w
 unfoldable pub reversed_bytes : ℕ → Extent → List ℕ → List ℕ
 reversed_bytes type read bytes = cond (eqb type 1) (reversed_path read.path.meta_header bytes) (take read.length bytes)
 
-unfoldable pub reverse : ℕ → List ℕ → List ℕ → Result PathError Written
+unfoldable pub reverse : ℕ → List ℕ → List ℕ → Result Written PathError
 reverse type bytes dst = do
   read ← refusing Decode (read_dataplane type bytes)
   into (reversed_bytes type read bytes) dst

@@ -7,7 +7,8 @@ use mathlib.Core.List.{List, ◌++◌, append-nil}
 use native.Mathlib.Omega.{arith}
 use lib.ListN.{length, drop_of_length-le}
 use borrow.Author.Tests.{eq-eqb, ne_eqb}
-use Rattle.wire_encoding.specs.Result.{ok, refused, mapped}
+use Rattle.std.specs.Prelude.{Ok, Err}
+use Rattle.wire_encoding.specs.Result.{mapped}
 use Rattle.path_meta_header.specs.MetaHeader.{hop_fields_count, path_length}
 use Rattle.path_meta_header.specs.declared.PathMetaHeader.{PathMetaHeader}
 use Rattle.errors.specs.declared.path_error.PathError.TheVariants.{AtLastHopField, InadequateBufferSize}
@@ -34,23 +35,23 @@ path_begun b g =
     }
 
 module _ (x : List ℕ) (m : PathMetaHeader) (path : Path x m) where
-  read : standard 1 x ≡ ok m
+  read : standard 1 x ≡ Ok m
   read = standard_read x m path.known.path
 
-  pub read_accepted : standard 1 x ≡ ok (meta_header_of x)
+  pub read_accepted : standard 1 x ≡ Ok (meta_header_of x)
   unfolding meta_header_of
   read_accepted = read ∙ rw read
 
-  able : movable 1 x ≡ ok m
+  able : movable 1 x ≡ Ok m
   able = known_movable x m path.known
 
   -- A MOVE
 
-  pub move_accepted : m.current_hop_field + 1 < hop_fields_count m → move 1 x ≡ ok (moved 1 x)
+  pub move_accepted : m.current_hop_field + 1 < hop_fields_count m → move 1 x ≡ Ok (moved 1 x)
   unfolding move moved is_last
   move_accepted l = rw (able, ne_eqb (m.current_hop_field + 1) (hop_fields_count m) (λ e. omega arith))
 
-  pub move_refused : hop_fields_count m ≡ m.current_hop_field + 1 → move 1 x ≡ refused AtLastHopField
+  pub move_refused : hop_fields_count m ≡ m.current_hop_field + 1 → move 1 x ≡ Err AtLastHopField
   unfolding move is_last
   move_refused l = rw (able, eq-eqb (m.current_hop_field + 1) (hop_fields_count m) (sym l))
 
@@ -66,10 +67,10 @@ module _ (x : List ℕ) (m : PathMetaHeader) (path : Path x m) where
   -- A REVERSAL
 
   module _ (dst : List ℕ) where
-    pub reverse_accepted : path_length m ≤ length dst → mapped front (reverse 1 x dst) ≡ ok (reversed_path m x)
-    reverse_accepted room = rw (reverse_enough x dst path.known.path room) (ap ok (front_reversed x dst path.known.path))
+    pub reverse_accepted : path_length m ≤ length dst → mapped front (reverse 1 x dst) ≡ Ok (reversed_path m x)
+    reverse_accepted room = rw (reverse_enough x dst path.known.path room) (ap Ok (front_reversed x dst path.known.path))
 
-    pub reverse_refused : length dst < path_length m → reverse 1 x dst ≡ refused InadequateBufferSize
+    pub reverse_refused : length dst < path_length m → reverse 1 x dst ≡ Err InadequateBufferSize
     reverse_refused = reverse_fewer x dst path.known.path
 
     -- into a destination of its length nothing stands behind it

@@ -5,7 +5,8 @@ use Prim.Native.Nat.{ℕ, zero, suc, ◌+◌, ◌-◌, ◌*◌, ◌<◌}
 use mathlib.Core.Path.{◌≡◌, refl, sym, ap, ap₂, ◌∙◌}
 use mathlib.Core.List.{List, [], ◌∷◌, ◌++◌}
 use native.Mathlib.Omega.{arith}
-use Rattle.wire_encoding.specs.Result.{ok, mapped}
+use Rattle.std.specs.Prelude.{Ok}
+use Rattle.wire_encoding.specs.Result.{mapped}
 use Rattle.wire_encoding.specs.BigEndian.{part}
 use Rattle.path_meta_header.specs.MetaHeader.{info_fields_count, hop_fields_count, hop_start}
 use Rattle.path_meta_header.specs.declared.PathMetaHeader.{PathMetaHeader}
@@ -68,7 +69,7 @@ reply_reversed b g dst room =
     ap (λ (x : List ℕ). mapped front (reverse 1 x dst)) (reply_walked_track b g last below)
     ∙ reverse_accepted (track b first last) (track_meta b first last) (track_path b g first last below) dst
     (omega (arith, track_length b g first last below))
-    ∙ ap ok (reversed_back b g last (omega (arith, below)))
+    ∙ ap Ok (reversed_back b g last (omega (arith, below)))
 
 pub reply_hop_field : ReplyHopField
 unfolding track standing_at at_position info_fields_count hop_fields_count

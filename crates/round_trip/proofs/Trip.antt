@@ -9,7 +9,8 @@ use mathlib.Core.Option.{none, some}
 use native.Mathlib.Omega.{arith}
 use lib.ListN.{length}
 use borrow.Author.Tests.{eq-eqb}
-use Rattle.wire_encoding.specs.Result.{ok, mapped}
+use Rattle.std.specs.Prelude.{Ok}
+use Rattle.wire_encoding.specs.Result.{mapped}
 use Rattle.path_meta_header.specs.MetaHeader.{hop_fields_count, path_length}
 use Rattle.path_meta_header.specs.declared.PathMetaHeader.{PathMetaHeader}
 use Rattle.path_moves.specs.Moves as moves
@@ -142,5 +143,5 @@ any_destination s i q header read =
     there : Readable q.bytes header
     there = standard_readable q.bytes 1 read
 
-    at : (dst : List ℕ) → path_length header ≤ length dst → mapped front (reverse 1 q.bytes dst) ≡ ok (reversed_path header q.bytes)
-    at dst room = rw (reverse_enough q.bytes dst there room) (ap ok (front_reversed q.bytes dst there))
+    at : (dst : List ℕ) → path_length header ≤ length dst → mapped front (reverse 1 q.bytes dst) ≡ Ok (reversed_path header q.bytes)
+    at dst room = rw (reverse_enough q.bytes dst there room) (ap Ok (front_reversed q.bytes dst there))

@@ -1,7 +1,7 @@
 -- Beside the claim of demand 3: what the path and its reply meet hop field by hop field, what the reply is, and that the trip happens.
-use Rattle.std.specs.Prelude.{ℕ, zero, suc, ◌+◌, ◌-◌, ◌≤◌, ◌<◌, ◌≡◌, List, [], ◌∷◌, ◌++◌, length}
+use Rattle.std.specs.Prelude.{ℕ, zero, suc, ◌+◌, ◌-◌, ◌≤◌, ◌<◌, ◌≡◌, List, [], ◌∷◌, ◌++◌, length, Ok}
 use Rattle.std.proofs.Math.Option.{some}
-use Rattle.wire_encoding.specs.Result.{ok, mapped}
+use Rattle.wire_encoding.specs.Result.{mapped}
 use Rattle.wire_encoding.specs.BigEndian.{part}
 use Rattle.path_meta_header.specs.MetaHeader.{hop_start, path_length}
 use Rattle.path_meta_header.specs.declared.PathMetaHeader.{PathMetaHeader}
@@ -57,7 +57,7 @@ ReplyMirror =
 abbrev pub ReplyReversed : Type 0
 ReplyReversed =
     (b : List ℕ) → Begun b → (dst : List ℕ) → length b ≤ length dst
-    → mapped front (reverse 1 (walked 1 (reply b) (hop_count b - 1)) dst) ≡ ok b
+    → mapped front (reverse 1 (walked 1 (reply b) (hop_count b - 1)) dst) ≡ Ok b
 
 -- THE TRIP
 
@@ -86,6 +86,6 @@ TripCounts = (b : List ℕ) → Begun b → (to : End) (x : List ℕ) → (at_en
 -- an arrival does not hang on the lent destination, as long as it has room for the path; a shorter one changes nothing
 abbrev pub AnyDestination : Type 0
 AnyDestination =
-    (s : State) (i : ℕ) (q : Packet) (m : PathMetaHeader) → standard 1 q.bytes ≡ ok m
+    (s : State) (i : ℕ) (q : Packet) (m : PathMetaHeader) → standard 1 q.bytes ≡ Ok m
     → ((d e : List ℕ) → path_length m ≤ length d → path_length m ≤ length e → arrived s i d q ≡ arrived s i e q)
     × ((d : List ℕ) → length d < path_length m → arrived s i d q ≡ s)

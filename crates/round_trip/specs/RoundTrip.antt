@@ -1,10 +1,10 @@
 -- Demand 3, as document 01 spells it out under "Move": two ends, their packets, the events, what a list of events leaves, and the
 -- claim about it. Quoted are 01's words; a turn is a path reversed. A move, a walk and a turn are the definitions that the contracts of
 -- these calls cite.
-use Rattle.std.specs.Prelude.{ℕ, zero, suc, ◌+◌, ◌-◌, ◌≤◌, ◌<◌, ◌≡◌, Bool, true, false, cond, List, [], ◌∷◌, ◌++◌, length, get_or, set, replicate}
+use Rattle.std.specs.Prelude.{ℕ, zero, suc, ◌+◌, ◌-◌, ◌≤◌, ◌<◌, ◌≡◌, Bool, true, false, cond, List, [], ◌∷◌, ◌++◌, length, get_or, set, replicate, Ok}
 use Rattle.std.proofs.Math.Option.{Option, none, some}
 use Rattle.std.proofs.Math.ListN.{get_elem?}
-use Rattle.wire_encoding.specs.Result.{ok, mapped, or_else}
+use Rattle.wire_encoding.specs.Result.{mapped, or_else}
 use Rattle.wire_encoding.specs.BigEndian.{part}
 use Rattle.path_fields.specs.Fields.{ingress_interface, egress_interface}
 use Rattle.path_fields.specs.declared.Interface.{Interface}
@@ -164,7 +164,7 @@ exchanged x = record { field = x.field; accumulator = x.accumulator; entry = x.e
 
 pub record Begun (b : List ℕ) : Type 0 where
   pub bytes : (i : ℕ) → get_or b i 0 < 256
-  pub read : standard 1 b ≡ ok (meta_header_of b)
+  pub read : standard 1 b ≡ Ok (meta_header_of b)
   pub exact : length b ≡ path_length (meta_header_of b)
   pub few : hop_count b ≤ 64
   pub peering : rules.peering_allowed b (meta_header_of b) ≡ true
@@ -181,7 +181,7 @@ meets b to p = by_end to (exchanged (by_path b (hop_count b - 1 - p))) (by_path 
 
 pub record Stands (b : List ℕ) (q : Packet) : Type 0 where
   -- its bytes are a path that is read, with B's number of hop fields
-  pub read : standard 1 q.bytes ≡ ok (meta_header_of q.bytes)
+  pub read : standard 1 q.bytes ≡ Ok (meta_header_of q.bytes)
   pub long : hop_count q.bytes ≡ hop_count b
   -- "a packet's count is its hop pointer p"
   pub counted : q.count ≡ pointer q.bytes

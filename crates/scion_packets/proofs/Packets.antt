@@ -5,7 +5,7 @@ use lib.ListN.{replicate}
 use Rattle.path_meta_header.specs.MetaHeader.{meta_of, nth_field}
 use Rattle.errors.specs.declared.packet_error.Decoded.TheVariants.{Refused}
 use Rattle.errors.specs.declared.packet_error.DecodeError.{DecodeError}
-use Rattle.wire_encoding.specs.Result.{refused}
+use Rattle.std.specs.Prelude.{Err}
 use Rattle.wire_encoding.specs.BigEndian.{big_endian}
 use Rattle.packet_common_header.specs.CommonHeader.{common_at, host_length, zero_common}
 use Rattle.packet_address_header.specs.AddressHeader.{kind_of, host_of_kind, padded, host_at, address_at, zero_address}
@@ -23,7 +23,7 @@ abbrev none : Part
 none = record { start = 0; len = 0 }
 
 pub packet_refused : (error : DecodeError)
-    → packet_out (packet_answer (refused error))
+    → packet_out (packet_answer (Err error))
     ≡ record {
       answer = decoded_out (Refused error);
       path = zeros;

@@ -12,7 +12,8 @@ use lib.Dec.{lit<, leb}
 use lib.ListN.{length, get_or, take, drop, length-append, length-drop, get_or-append}
 use lib.Seq.{sets, sets-eq, get_or-append-add, get_or-append_seam, get_or-take, get_or-drop, length-take-le, take-append-le, drop-append-le}
 use borrow.Author.Tests.{le-leb, lt-leb, leb-true, leb-false}
-use Rattle.wire_encoding.specs.Result.{Result, ok, refused, or_else}
+use Rattle.std.specs.Prelude.{Result, Ok, Err}
+use Rattle.wire_encoding.specs.Result.{or_else}
 use Rattle.wire_encoding.specs.BigEndian.{big_endian, bytes_of, room, number_at, part, records, NumbersReadBack, BytesReadBack, NumbersBelow}
 use Rattle.wire_encoding.proofs.Result.{held, unmet}
 use Rattle.wire_encoding.proofs.Lists.{Bytes, bytes_append, part-last}
@@ -48,20 +49,20 @@ room-left len at n inside = go (leb n (len - at)) refl
 
 -- the two answers of a reader at any width
 module _ (width : ℕ) (bytes : List ℕ) (at : ℕ) where
-  pub found : at + width ≤ length bytes → {n : ℕ} → n ≡ big_endian width bytes at → ok n ≡ number_at width bytes at
+  pub found : at + width ≤ length bytes → {n : ℕ} → n ≡ big_endian width bytes at → Ok n ≡ number_at width bytes at
   unfolding number_at room
-  found h e = simp (le-leb _ _ h) (ap ok e)
+  found h e = simp (le-leb _ _ h) (ap Ok e)
 
-  pub truncated : length bytes < at + width → refused 1 ≡ number_at width bytes at
+  pub truncated : length bytes < at + width → Err 1 ≡ number_at width bytes at
   unfolding number_at room
   truncated h = simp (lt-leb _ _ h)
 
   -- and what each says of the bytes
-  pub was_read : {n : ℕ} → ok n ≡ number_at width bytes at → (room bytes at width ≡ true) × (n ≡ big_endian width bytes at)
+  pub was_read : {n : ℕ} → Ok n ≡ number_at width bytes at → (room bytes at width ≡ true) × (n ≡ big_endian width bytes at)
   unfolding number_at
   was_read e = let r = held (room bytes at width) 1 _ (sym e) in (r.0, cc)
 
-  pub was_truncated : refused 1 ≡ number_at width bytes at → room bytes at width ≡ false
+  pub was_truncated : Err 1 ≡ number_at width bytes at → room bytes at width ≡ false
   unfolding number_at
   was_truncated e = unmet (room bytes at width) 1 (big_endian width bytes at) (sym e)
 

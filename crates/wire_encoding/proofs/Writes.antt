@@ -10,7 +10,8 @@ use lib.ListN.{length, get_or, set, take, drop, length-set, drop_of_length-le}
 use lib.Seq.{sets, sets-eq, drop-cons, drop-drop, length-sets}
 use borrow.Author.Tests.{le-leb, lt-leb}
 use mathlib.Core.Bool.{Bool, true, false}
-use Rattle.wire_encoding.specs.Result.{ok, refused, require, or_else}
+use Rattle.std.specs.Prelude.{Ok, Err}
+use Rattle.wire_encoding.specs.Result.{require, or_else}
 use Rattle.wire_encoding.specs.BigEndian.{bytes_of, number_at, part, room, written, placed}
 use Rattle.wire_encoding.proofs.Lists.{Bytes, length_part, sets-append, set-sets, sets-whole}
 use Rattle.wire_encoding.proofs.BigEndian.{or_zero_is, length_bytes_of, bytes_read}
@@ -64,11 +65,11 @@ run_done src goal dst₀ dst at i h r = sym (ap (sets dst (at + i)) (drop_of_len
 
 -- the two answers of a writer of a run of n bytes
 module _ (dst : List ℕ) (at : ℕ) (run : List ℕ) (n : ℕ) (size : length run ≡ n) where
-  pub done : at + n ≤ length dst → written dst at run ≡ ok (sets dst at run)
+  pub done : at + n ≤ length dst → written dst at run ≡ Ok (sets dst at run)
   unfolding written room
   done h = simp (size, le-leb (at + n) (length dst) h)
 
-  pub no_room : length dst < at + n → written dst at run ≡ refused 9
+  pub no_room : length dst < at + n → written dst at run ≡ Err 9
   unfolding written room
   no_room h = simp (size, lt-leb (at + n) (length dst) h)
 
@@ -81,7 +82,7 @@ pub length-placed : (dst : List ℕ) (at : ℕ) (run : List ℕ) → length (pla
 unfolding written
 length-placed dst at run = go (room dst at (length run))
   where
-    go : (t : Bool) → length (or_else (require {E = ℕ} t 9 (ok (sets dst at run))) dst) ≡ length dst
+    go : (t : Bool) → length (or_else (require {E = ℕ} t 9 (Ok (sets dst at run))) dst) ≡ length dst
     go true = length-sets dst at run
     go false = refl
 

@@ -1,7 +1,7 @@
 -- Numbers on the wire, over their width in bytes: highest byte first.
-use Rattle.std.specs.Prelude.{ℕ, zero, suc, ◌+◌, ◌*◌, ◌/◌, ◌%◌, ◌^◌, ◌≤◌, ◌<◌, ◌≡◌, Bool, List, [], ◌∷◌, ◌++◌, length, get_or, take, drop, leb}
+use Rattle.std.specs.Prelude.{ℕ, zero, suc, ◌+◌, ◌*◌, ◌/◌, ◌%◌, ◌^◌, ◌≤◌, ◌<◌, ◌≡◌, Bool, List, [], ◌∷◌, ◌++◌, length, get_or, take, drop, leb, Result, Ok}
 use Rattle.std.proofs.lemmas.List.Edits.{sets}
-use Rattle.wire_encoding.specs.Result.{Result, ok, require, ◌>>◌, or_else}
+use Rattle.wire_encoding.specs.Result.{require, ◌>>◌, or_else}
 
 -- the number that the `width` bytes at `at` spell
 unfoldable pub big_endian : ℕ → List ℕ → ℕ → ℕ
@@ -21,13 +21,13 @@ room bytes at n = leb (at + n) (length bytes)
 unfoldable pub number_at : ℕ → List ℕ → ℕ → Result ℕ ℕ
 number_at width bytes at = do
   require (room bytes at width) 1
-  ok (big_endian width bytes at)
+  Ok (big_endian width bytes at)
 
 -- writing a run of bytes: what the lent bytes then hold, or 9 where there is no room for all of them
-unfoldable pub written : List ℕ → ℕ → List ℕ → Result ℕ (List ℕ)
+unfoldable pub written : List ℕ → ℕ → List ℕ → Result (List ℕ) ℕ
 written dst at run = do
   require (room dst at (length run)) 9
-  ok (sets dst at run)
+  Ok (sets dst at run)
 
 -- a refusal changes nothing
 abbrev pub placed : List ℕ → ℕ → List ℕ → List ℕ

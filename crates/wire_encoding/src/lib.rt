@@ -3,5 +3,6 @@
 
 pub mod bounded;
 pub mod flags;
+pub mod number;
 pub mod read;
 pub mod write;

@@ -10,7 +10,7 @@ use lib.ListN.{length, take, length-append}
 use Rattle.wire_encoding.specs.BigEndian.{big_endian, bytes_of}
 use Rattle.wire_encoding.proofs.Lists.{Bytes, part_join}
 use Rattle.wire_encoding.proofs.BigEndian.{length_bytes_of, bytes_read, read_bytes_of}
-use Rattle.wire_encoding.specs.Result.{ok}
+use Rattle.std.specs.Prelude.{Ok}
 use Rattle.packet_common_header.specs.CommonHeader.{host_length}
 use Rattle.packet_address_header.specs.AddressHeader.{kind_of, host_at, length_of_kinds, address_length, address_at, read_address, host_bytes, address_bytes}
 use Rattle.packet_address_header.specs.declared.AddressHeader.{AddressHeader}
@@ -84,7 +84,7 @@ module _ (a : AddressHeader) (after : List ℕ) (s : Sixteen a) where
         ∙ read_bytes_of 8 a.source_ia.0 to (dst ++ (src ++ after))
         ∙ mod-eq_of_lt source_fits
 
-    pub address_back : read_address (address_bytes a ++ after) dk sk ≡ ok (address_read a)
+    pub address_back : read_address (address_bytes a ++ after) dk sk ≡ Ok (address_read a)
     unfolding address_read address_length address_at
     address_back =
         let own : length (address_bytes a) ≡ address_length a = length-address_bytes a s in

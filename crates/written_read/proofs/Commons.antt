@@ -10,7 +10,7 @@ use lib.ListN.{length, get_or, take}
 use Rattle.wire_encoding.specs.BigEndian.{big_endian, bytes_of}
 use Rattle.wire_encoding.proofs.Lists.{Bytes, bytes_from, part_bytes}
 use Rattle.wire_encoding.proofs.BigEndian.{below, bytes_read, read_bytes_of}
-use Rattle.wire_encoding.specs.Result.{ok}
+use Rattle.std.specs.Prelude.{Ok}
 use Rattle.packet_common_header.specs.CommonHeader.{common_at, read_common, version_of, common_bytes}
 use Rattle.packet_common_header.specs.declared.CommonHeader.{CommonHeader}
 use Rattle.packet_common_header.proofs.CommonHeaderLaws.{common_accepted, Widths, Fields, first_fits}
@@ -57,10 +57,10 @@ module _ (c : CommonHeader) (after : List ℕ) (f : Fields c) where
   unfolding common_bytes bytes_of
   version_read zero = omega (arith, f.widths.flow, f.class)
 
-  pub common_read : c.version ≡ 0 → 9 ≤ c.header_length_factor → read_common (common_bytes c ++ after) ≡ ok c
+  pub common_read : c.version ≡ 0 → 9 ≤ c.header_length_factor → read_common (common_bytes c ++ after) ≡ Ok c
   unfolding common_bytes bytes_of
   common_read zero long =
-      common_accepted (common_bytes c ++ after) (version_read zero) (omega arith) long ∙ ap (λ (x : CommonHeader). ok x) fields_read
+      common_accepted (common_bytes c ++ after) (version_read zero) (omega arith) long ∙ ap (λ (x : CommonHeader). Ok x) fields_read
 
 -- WRITTEN AS IT WAS READ
 

@@ -6,7 +6,7 @@ use mathlib.Core.List.{List}
 use Prim.Native.Nat.{ℕ, ◌+◌, ◌<◌}
 use lib.ListN.{get_or}
 use lib.Dec.{eqb}
-use Rattle.wire_encoding.specs.Result.{ok}
+use Rattle.std.specs.Prelude.{Ok}
 use Rattle.wire_encoding.proofs.Lists.{Bytes}
 use Rattle.packet_common_header.specs.CommonHeader.{host_length}
 use Rattle.packet_address_header.specs.AddressHeader.{kind_of, host_at, address_at}
@@ -44,7 +44,7 @@ module _ (bytes : List ℕ) (b : Bytes bytes) (p : Packet) (s : Split bytes p) w
       address_in a.destination_ia.0 (host_out a.destination) a.source_ia.0 (host_out a.source) ≡ a
   ends_back = rw (address_was bytes b p s).header (address_back _ _ _)
 
-  pub headers_back : headers_in (headers_again (packet_out (packet_answer (ok p)))) ≡ headers_of p
+  pub headers_back : headers_in (headers_again (packet_out (packet_answer (Ok p)))) ≡ headers_of p
   unfolding headers_in headers_again packet_out packet_answer headers_of
   headers_back = rw ends_back
 

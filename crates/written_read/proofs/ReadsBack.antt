@@ -9,7 +9,7 @@ use native.Mathlib.Omega.{arith}
 use lib.ListN.{length, take, drop, length-append, drop_of_length-le}
 use lib.Seq.{take_all, take_at, drop_at}
 use borrow.Author.Tests.{lt-ltb, le-ltb}
-use Rattle.wire_encoding.specs.Result.{Result, ok}
+use Rattle.std.specs.Prelude.{Result, Ok}
 use Rattle.wire_encoding.proofs.Result.{same_value}
 use Rattle.errors.specs.declared.packet_error.DecodeError.{DecodeError}
 use Rattle.path.specs.declared.standard.StandardPath.{StandardPath}
@@ -66,17 +66,17 @@ module _ (h : ScionHeaders) (path : List ℕ) (stored : StandardPath) (size : �
   unfolding headers_length address_length length_of_kinds host_length
   long_enough = omega arith
 
-  reads_common : read_common packet ≡ ok (common_of h)
+  reads_common : read_common packet ≡ Ok (common_of h)
   unfolding common_of header_bytes
   reads_common =
       ap read_common (append_assoc x (y ++ z) tail)
       ∙ common_read (common_of h) ((y ++ z) ++ tail) fields version (omega (arith, long_enough))
 
   -- the address header, by the hosts' own kinds
-  abbrev by_kinds : List ℕ → Result DecodeError AddressHeader
+  abbrev by_kinds : List ℕ → Result AddressHeader DecodeError
   by_kinds l = read_address l (common_of h).destination_kind (common_of h).source_kind
 
-  reads_address : by_kinds (drop 12 (header_bytes h path)) ≡ ok (address_read h.address)
+  reads_address : by_kinds (drop 12 (header_bytes h path)) ≡ Ok (address_read h.address)
   unfolding common_of header_bytes
   reads_address =
       ap by_kinds (drop_at x (y ++ z) 12 (length-common_bytes (common_of h)))
@@ -99,7 +99,7 @@ module _ (h : ScionHeaders) (path : List ℕ) (stored : StandardPath) (size : �
       → drop (header_length (common_of h)) packet ≡ tail
       → h.payload_length ≤ length tail
       → take h.payload_length tail ≡ payload
-      → read_capture packet ≡ ok (packet_of h path stored payload)
+      → read_capture packet ≡ Ok (packet_of h path stored payload)
   unfolding packet_of common_of
   all_read payload taken left room own =
       capture_accepted packet (header_bytes h path) tail z payload (common_of h) (address_read h.address) stored reads_common
@@ -119,7 +119,7 @@ module _ (h : ScionHeaders) (path : List ℕ) (stored : StandardPath) (size : �
   unfolding header_length common_of
   ends = written-length h path stored size tail t f.version enough f.path_read k ∙ sym f.full
 
-  filled_read : read_capture (header_bytes h path ++ tail) ≡ ok (packet_of h path stored payload)
+  filled_read : read_capture (header_bytes h path ++ tail) ≡ Ok (packet_of h path stored payload)
   filled_read =
       all_read h path stored size tail t f.version enough f.path_read k payload
       (take_at (header_bytes h path) tail (header_length (common_of h)) ends)
@@ -132,7 +132,7 @@ module _ (h : ScionHeaders) (path : List ℕ) (stored : StandardPath) (size : �
   unfolding is_short
   not_short = le-ltb _ (header_length (common_of h)) (simp length-append (omega (arith, ends)))
 
-  filled_packet : read_packet (header_bytes h path ++ tail) ≡ ok (packet_of h path stored payload)
+  filled_packet : read_packet (header_bytes h path ++ tail) ≡ Ok (packet_of h path stored payload)
   filled_packet = goes_on _ (reads_common h path stored size tail t f.version enough f.path_read k) not_short ∙ filled_read
 
 pub reads_back : OfBoth ReadsBack
@@ -161,14 +161,14 @@ module _ (h : ScionHeaders) (path : List ℕ) (stored : StandardPath) (size : �
   unfolding header_length common_of
   few = omega (arith, m.more, written-length h path stored size [] t m.version at_least m.path_read k)
 
-  common_there : read_common written ≡ ok (common_of h)
+  common_there : read_common written ≡ Ok (common_of h)
   common_there = ap read_common (sym alone) ∙ reads_common h path stored size [] t m.version at_least m.path_read k
 
   is_short_lem : is_short (common_of h) written ≡ true
   unfolding is_short
   is_short_lem = lt-ltb (length written) (header_length (common_of h)) few
 
-  captured : read_capture written ≡ ok (packet_of h path stored [])
+  captured : read_capture written ≡ Ok (packet_of h path stored [])
   captured =
       let n : ℕ = header_length (common_of h) in
       let all : length written ≤ n = omega (arith, few) in
@@ -179,9 +179,9 @@ module _ (h : ScionHeaders) (path : List ℕ) (stored : StandardPath) (size : �
       (omega (arith, m.no_payload))
       (ap (λ (j : ℕ). take j []) m.no_payload)
 
-  marked : capture_answer written ≡ record { packet = packet_answer (ok (packet_of h path stored [])); short = true }
+  marked : capture_answer written ≡ record { packet = packet_answer (Ok (packet_of h path stored [])); short = true }
   unfolding capture_answer packet_of
-  marked = rw captured (ap (λ short. record { packet = packet_answer (ok (packet_of h path stored [])); short = short }) is_short_lem)
+  marked = rw captured (ap (λ short. record { packet = packet_answer (Ok (packet_of h path stored [])); short = short }) is_short_lem)
 
 pub reads_back_short : ReadsBackShort
 reads_back_short h path stored size written t m done =

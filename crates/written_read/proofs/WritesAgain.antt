@@ -9,7 +9,7 @@ use native.Mathlib.Omega.{arith}
 use lib.ListN.{length, take, drop}
 use lib.Seq.{take-take}
 use lib.Dec.{eqb}
-use Rattle.wire_encoding.specs.Result.{Result, ok}
+use Rattle.std.specs.Prelude.{Result, Ok}
 use Rattle.wire_encoding.specs.BigEndian.{part}
 use Rattle.wire_encoding.proofs.Result.{same_value}
 use Rattle.wire_encoding.proofs.Lists.{Bytes, part_join, bytes_part}
@@ -35,12 +35,12 @@ use Rattle.written_read.proofs.Addresses.{address_written}
 -- THE PATH
 
 -- type 0 adds no bytes, and a path of type 0 that was read whole has none
-added_whole : (type : ℕ) (path : List ℕ) {read : Extent} → read_dataplane type path ≡ ok read → read.length ≡ length path
+added_whole : (type : ℕ) (path : List ℕ) {read : Extent} → read_dataplane type path ≡ Ok read → read.length ≡ length path
     → added_bytes type path ≡ path
 unfolding added_bytes read_dataplane
 added_whole type path {read} h whole = go (eqb type 0) path _ h whole
   where
-    go : (t : Bool) (path : List ℕ) (other : Result DecodeError Extent) → cond t (ok (unread 0)) other ≡ ok read → read.length ≡ length path
+    go : (t : Bool) (path : List ℕ) (other : Result Extent DecodeError) → cond t (Ok (unread 0)) other ≡ Ok read → read.length ≡ length path
         → cond t [] path ≡ path
     go false path other e whole = refl
     go true [] other e whole = refl
@@ -89,7 +89,7 @@ module _ (bytes : List ℕ) (b : Bytes bytes) (p : Packet) (s : Split bytes p) w
       rw (to, from)
 
   -- the encoder accepts them
-  accepted_again : write_headers (headers_of p) path (12 + n + length path) ≡ ok (header_bytes (headers_of p) path)
+  accepted_again : write_headers (headers_of p) path (12 + n + length path) ≡ Ok (header_bytes (headers_of p) path)
   unfolding headers_of common_at headers_length
   accepted_again =
       let known = common_known bytes s.common in
@@ -129,7 +129,7 @@ unfolding payload_part
 captured_again bytes p small read =
     let b : Bytes bytes = λ i. record { fits = small i } in
     let s : Split bytes p = split bytes read in
-    accepted_again bytes b p s ∙ ap (λ (l : List ℕ). ok l) (same_again bytes b p s)
+    accepted_again bytes b p s ∙ ap (λ (l : List ℕ). Ok l) (same_again bytes b p s)
 
 pub writes_again : OfBoth WritesAgain
 writes_again = (λ bytes p small read. captured_again bytes p small (packet_captured bytes read), captured_again)

@@ -1,6 +1,6 @@
 -- Worked examples: a service whose padding is not zero, read, written again, and zero in a reply that is made anew.
-use Rattle.std.specs.Prelude.{ℕ, ◌≡◌, List, [], ◌∷◌, ◌++◌}
-use Rattle.wire_encoding.specs.Result.{ok, mapped}
+use Rattle.std.specs.Prelude.{ℕ, ◌≡◌, List, [], ◌∷◌, ◌++◌, Ok}
+use Rattle.wire_encoding.specs.Result.{mapped}
 use Rattle.packet_address_header.specs.AddressHeader.{service_host}
 use Rattle.packet_address_header.specs.declared.AddressHeader.{AddressHeader}
 use Rattle.packet.specs.Raw.{Packet, read_packet}
@@ -33,16 +33,16 @@ from_service = smallest 0x04 here there (0xD0 ∷ 0xD1 ∷ 0xD2 ∷ 0xD3 ∷ [])
 -- the service is read with its padding, at either end; the IPv4 host beside it has none
 abbrev pub ServicesRead : Type 0
 ServicesRead =
-    (mapped (λ (p : Packet). p.address.destination) (read_packet to_service) ≡ ok (service_host 0x0002 0xBEEF))
-    × (mapped (λ (p : Packet). p.address.source.padding) (read_packet to_service) ≡ ok 0)
-    × (mapped (λ (p : Packet). p.address.source) (read_packet from_service) ≡ ok (service_host 0x8002 0x0001))
-    × (mapped (λ (p : Packet). p.address.destination.padding) (read_packet from_service) ≡ ok 0)
+    (mapped (λ (p : Packet). p.address.destination) (read_packet to_service) ≡ Ok (service_host 0x0002 0xBEEF))
+    × (mapped (λ (p : Packet). p.address.source.padding) (read_packet to_service) ≡ Ok 0)
+    × (mapped (λ (p : Packet). p.address.source) (read_packet from_service) ≡ Ok (service_host 0x8002 0x0001))
+    × (mapped (λ (p : Packet). p.address.destination.padding) (read_packet from_service) ≡ Ok 0)
 
 -- what was read is written again as it came
 abbrev pub ServicesWrittenAgain : Type 0
 ServicesWrittenAgain =
-    (mapped (λ (p : Packet). header_bytes (headers_of p) []) (read_packet to_service) ≡ ok to_service)
-    × (mapped (λ (p : Packet). header_bytes (headers_of p) []) (read_packet from_service) ≡ ok from_service)
+    (mapped (λ (p : Packet). header_bytes (headers_of p) []) (read_packet to_service) ≡ Ok to_service)
+    × (mapped (λ (p : Packet). header_bytes (headers_of p) []) (read_packet from_service) ≡ Ok from_service)
 
 -- from the destination to the source
 unfoldable pub exchanged : AddressHeader → AddressHeader
@@ -59,6 +59,6 @@ abbrev pub ServicesAnswered : Type 0
 ServicesAnswered =
     let reply : Packet → List ℕ = λ p. header_bytes (new_headers (exchanged p.address) 0 0 0x11 0 1) [] in
     (mapped reply (read_packet to_service)
-    ≡ ok (smallest 0x04 there here (0x50 ∷ 0x51 ∷ 0x52 ∷ 0x53 ∷ []) (0x00 ∷ 0x02 ∷ 0x00 ∷ 0x00 ∷ [])))
+    ≡ Ok (smallest 0x04 there here (0x50 ∷ 0x51 ∷ 0x52 ∷ 0x53 ∷ []) (0x00 ∷ 0x02 ∷ 0x00 ∷ 0x00 ∷ [])))
     × (mapped reply (read_packet from_service)
-    ≡ ok (smallest 0x40 there here (0x80 ∷ 0x02 ∷ 0x00 ∷ 0x00 ∷ []) (0xD0 ∷ 0xD1 ∷ 0xD2 ∷ 0xD3 ∷ [])))
+    ≡ Ok (smallest 0x40 there here (0x80 ∷ 0x02 ∷ 0x00 ∷ 0x00 ∷ []) (0xD0 ∷ 0xD1 ∷ 0xD2 ∷ 0xD3 ∷ [])))

@@ -1,7 +1,6 @@
 -- Writing again what was read, over C: the struct that `scion_read_packet` hands out, alone or as the packet of
 -- `scion_read_capture`, copied value by value into the one that `scion_write_headers` takes.
-use Rattle.std.specs.Prelude.{ℕ, ◌<◌, ◌≡◌, List, get_or, take}
-use Rattle.wire_encoding.specs.Result.{ok}
+use Rattle.std.specs.Prelude.{ℕ, ◌<◌, ◌≡◌, List, get_or, take, Ok}
 use Rattle.path.specs.Dataplane.{part_in}
 use Rattle.packet.specs.Raw.{Packet, packet_answer}
 use Rattle.packet.specs.Captures.{Reader}
@@ -31,7 +30,7 @@ headers_again p =
 -- they are written, with the bytes of the path's part, into as many bytes as stand before the payload, as these bytes
 abbrev pub WritesAgainOverC : Reader → Type 0
 WritesAgainOverC read =
-    (bytes : List ℕ) (p : Packet) → ((i : ℕ) → get_or bytes i 0 < 256) → read bytes ≡ ok p
+    (bytes : List ℕ) (p : Packet) → ((i : ℕ) → get_or bytes i 0 < 256) → read bytes ≡ Ok p
     → let out = packet_out (packet_answer (read bytes)) in
     let before = out.payload_part.start in
-    write_headers (headers_in (headers_again out)) (part_in bytes out.path_part) before ≡ ok (take before bytes)
+    write_headers (headers_in (headers_again out)) (part_in bytes out.path_part) before ≡ Ok (take before bytes)

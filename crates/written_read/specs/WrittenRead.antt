@@ -1,8 +1,8 @@
 -- Reading what was written gives the values back; writing again what was read gives the bytes back. The definitions are those that
 -- the contracts of the packet's split and of the encoder cite. What is said of a reader holds of both, the one of packets and the one
 -- of captures (`OfBoth`).
-use Rattle.std.specs.Prelude.{ℕ, ◌+◌, ◌*◌, ◌%◌, ◌^◌, ◌≤◌, ◌<◌, ◌≡◌, true, List, [], ◌∷◌, ◌++◌, length, get_or, take, drop}
-use Rattle.wire_encoding.specs.Result.{ok, refused, mapped}
+use Rattle.std.specs.Prelude.{ℕ, ◌+◌, ◌*◌, ◌%◌, ◌^◌, ◌≤◌, ◌<◌, ◌≡◌, true, List, [], ◌∷◌, ◌++◌, length, get_or, take, drop, Ok, Err}
+use Rattle.wire_encoding.specs.Result.{mapped}
 use Rattle.wire_encoding.specs.BigEndian.{part}
 use Rattle.errors.specs.declared.packet_error.DecodeError.TheVariants.{PacketEmptyOrTruncated}
 use Rattle.address.specs.declared.service.ServiceAddr.{ServiceAddr}
@@ -24,7 +24,7 @@ use Rattle.packet_headers.specs.declared.ScionHeaders.{ScionHeaders}
 -- the bytes of a packet that was read: common header, address header, path and payload, one after the other
 abbrev pub InOrder : Reader → Type 0
 InOrder read =
-    (bytes : List ℕ) (p : Packet) → read bytes ≡ ok p
+    (bytes : List ℕ) (p : Packet) → read bytes ≡ Ok p
     → take ((payload_part p).start + (payload_part p).len) bytes
     ≡ take 12 bytes ++ (part 12 (address_length p.address) bytes ++ (p.path_bytes ++ p.payload))
 
@@ -41,7 +41,7 @@ pub record Typed (h : ScionHeaders) : Type 0 where
 
 -- a path that is read whole, with its record
 abbrev pub ReadWhole : ℕ → List ℕ → StandardPath → Type 0
-ReadWhole type path stored = read_dataplane type path ≡ ok (record { path = stored; length = length path })
+ReadWhole type path stored = read_dataplane type path ≡ Ok (record { path = stored; length = length path })
 
 -- headers that fill their length: their version is the one that is read, 4 × factor is the length that is written, and the path is
 -- read whole. Others aren't read back: a factor that was rounded down leaves the last bytes of the path to the payload, and a larger
@@ -79,8 +79,8 @@ packet_of h path stored payload =
 abbrev pub ReadsBack : Reader → Type 0
 ReadsBack read =
     (h : ScionHeaders) (path : List ℕ) (stored : StandardPath) (size : ℕ) (written payload after : List ℕ) → Typed h → Fills h path stored
-    → write_headers h path size ≡ ok written → length payload ≡ h.payload_length
-    → read (written ++ (payload ++ after)) ≡ ok (packet_of h path stored payload)
+    → write_headers h path size ≡ Ok written → length payload ≡ h.payload_length
+    → read (written ++ (payload ++ after)) ≡ Ok (packet_of h path stored payload)
 
 -- headers whose factor says more bytes than are written, and which announce no payload
 pub record SaysMore (h : ScionHeaders) (path : List ℕ) (stored : StandardPath) : Type 0 where
@@ -93,9 +93,9 @@ pub record SaysMore (h : ScionHeaders) (path : List ℕ) (stored : StandardPath)
 abbrev pub ReadsBackShort : Type 0
 ReadsBackShort =
     (h : ScionHeaders) (path : List ℕ) (stored : StandardPath) (size : ℕ) (written : List ℕ) → Typed h → SaysMore h path stored
-    → write_headers h path size ≡ ok written
-    → (read_packet written ≡ refused PacketEmptyOrTruncated)
-    × (capture_answer written ≡ record { packet = packet_answer (ok (packet_of h path stored [])); short = true })
+    → write_headers h path size ≡ Ok written
+    → (read_packet written ≡ Err PacketEmptyOrTruncated)
+    × (capture_answer written ≡ record { packet = packet_answer (Ok (packet_of h path stored [])); short = true })
 
 -- NEW HEADERS
 
@@ -119,8 +119,8 @@ RoundedDown =
     let h = new_headers zero_address 2 3 17 0 1 in
     let bytes = header_bytes h path in
     (h.header_length_factor ≡ 9)
-    × (write_headers h path 39 ≡ ok bytes)
-    × (mapped (λ (p : Packet). p.path_bytes) (read_packet bytes) ≡ ok [])
+    × (write_headers h path 39 ≡ Ok bytes)
+    × (mapped (λ (p : Packet). p.path_bytes) (read_packet bytes) ≡ Ok [])
     × (drop 36 bytes ≡ path)
 
 -- where the host at `at` is a service, its two padding bytes are zero
@@ -131,7 +131,7 @@ PaddingZero a bytes at = (service : ServiceAddr) → a.host ≡ Decoded (Svc ser
 abbrev pub NewHeadersPadding : Type 0
 NewHeadersPadding =
     (a : AddressHeader) (type : ℕ) (path : List ℕ) (next payload flow size : ℕ) (written : List ℕ) → length a.destination.bytes ≡ 16
-    → write_headers (new_headers a type (length path) next payload flow) path size ≡ ok written
+    → write_headers (new_headers a type (length path) next payload flow) path size ≡ Ok written
     → PaddingZero a.destination written 28 × PaddingZero a.source written (28 + host_length (kind_of a.destination.host))
 
 -- HOSTS
@@ -168,5 +168,5 @@ headers_of p =
 -- the encoder accepts them, and writes the bytes before the payload, whatever they are; those of a short capture too
 abbrev pub WritesAgain : Reader → Type 0
 WritesAgain read =
-    (bytes : List ℕ) (p : Packet) → ((i : ℕ) → get_or bytes i 0 < 256) → read bytes ≡ ok p
-    → write_headers (headers_of p) p.path_bytes (payload_part p).start ≡ ok (take (payload_part p).start bytes)
+    (bytes : List ℕ) (p : Packet) → ((i : ℕ) → get_or bytes i 0 < 256) → read bytes ≡ Ok p
+    → write_headers (headers_of p) p.path_bytes (payload_part p).start ≡ Ok (take (payload_part p).start bytes)

@@ -3,7 +3,7 @@ use Prim.Native.Nat.{ℕ, ◌<◌}
 use mathlib.Core.Path.{◌≡◌, refl}
 use mathlib.Core.List.{List}
 use native.Mathlib.Omega.{arith}
-use Rattle.wire_encoding.specs.Result.{ok}
+use Rattle.std.specs.Prelude.{Ok}
 use Rattle.path_meta_header.specs.declared.PathMetaHeader.{PathMetaHeader}
 use Rattle.path.proofs.Reading.{answer_refused}
 use Rattle.path_moves.specs.Rules.{movable}
@@ -13,7 +13,7 @@ use Rattle.path_moves.proofs.Walks.{way}
 use Rattle.path_moves.proofs.walk.Goals as goal
 
 -- there are at most 64 hop fields to walk along
-short : (bytes : List ℕ) (m : PathMetaHeader) (limit : ℕ) {moves : ℕ} → movable 1 bytes ≡ ok m → moves ≡ walk_moves m limit → moves < 64
+short : (bytes : List ℕ) (m : PathMetaHeader) (limit : ℕ) {moves : ℕ} → movable 1 bytes ≡ Ok m → moves ≡ walk_moves m limit → moves < 64
 unfolding walk_moves
 short bytes m limit able is = omega (arith, (known _ _ able).few)
 

@@ -4,7 +4,7 @@ use mathlib.Core.List.{List}
 use Prim.Native.Nat.{ℕ, ◌+◌, min}
 use native.Mathlib.Omega.{arith}
 use lib.ListN.{length}
-use Rattle.wire_encoding.specs.Result.{ok}
+use Rattle.std.specs.Prelude.{Ok}
 use Rattle.path.proofs.Reading.{read_ok, read_refused}
 use Rattle.packet_common_header.specs.CommonHeader.{read_common, header_length}
 use Rattle.packet_common_header.specs.declared.CommonHeader.{CommonHeader}
@@ -15,7 +15,7 @@ use Rattle.packet.proofs.raw.ScionPacketRaw.rest.Goals as goal
 use Rattle.packet.proofs.raw.ScionPacketRaw.rest.Goals.{In_default, In_default-path_answer}
 
 -- the common header, and where the headers end
-common : {bytes : List ℕ} {c : CommonHeader} {end : ℕ} → read_common bytes ≡ ok c → end ≡ min (header_length c) (length bytes)
+common : {bytes : List ℕ} {c : CommonHeader} {end : ℕ} → read_common bytes ≡ Ok c → end ≡ min (header_length c) (length bytes)
     → CommonFound bytes c end
 common read ends = record { common = read; ends = ends }
 

@@ -1,6 +1,6 @@
 -- `ScionPacketRaw::split` meets its contract: the common header, of a packet the test for a short one, the rest.
 use mathlib.Core.Path.{◌≡◌, sym, ◌∙◌}
-use Rattle.wire_encoding.specs.Result.{ok}
+use Rattle.std.specs.Prelude.{Ok}
 use Rattle.packet_common_header.specs.CommonHeader.{read_common}
 use Rattle.packet.proofs.RawLaws.{common_ok, common_refused, first_refused, then_short, then_rest}
 use Rattle.packet.proofs.raw.ScionPacketRaw.split.Goals as goal
@@ -11,7 +11,7 @@ returns-in-Refused c =
     rw (first_refused _ _ (common_refused _ c.decode-common_read.ensures c.in-Refused.is)) c.refused.ensures
 
 -- the common header that was read
-common : (c : After-is_refused) → read_common c.args.bytes.now ≡ ok c.decode-common_read.result.header
+common : (c : After-is_refused) → read_common c.args.bytes.now ≡ Ok c.decode-common_read.result.header
 common c = common_ok _ c.decode-common_read.ensures c.in_default.is
 
 pub returns-then-is_refused : goal.returns-then-is_refused

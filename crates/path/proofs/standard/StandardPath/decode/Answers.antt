@@ -5,7 +5,7 @@ use mathlib.Core.Path.{◌≡◌}
 use mathlib.Core.List.{List}
 use lib.ListN.{length}
 use native.Mathlib.Omega.{arith}
-use Rattle.wire_encoding.specs.Result.{ok}
+use Rattle.std.specs.Prelude.{Ok}
 use Rattle.path.proofs.Reading.{readable, expiry_found_lem}
 use Rattle.path_meta_header.specs.MetaHeader.{read_meta, path_length}
 use Rattle.path_meta_header.specs.declared.PathMetaHeader.{PathMetaHeader}
@@ -23,14 +23,14 @@ pub returns-then-bytes-encoded_path_length : goal.returns-then-bytes-encoded_pat
 unfolding spec.read_record spec.read_path spec.path_read
 returns-then-bytes-encoded_path_length c =
     let header = meta_ok _ c.decode-read.ensures c.in_default.is in
-    let refused = c.refused-then-bytes-encoded_path_length.ensures in
+    let Err = c.refused-then-bytes-encoded_path_length.ensures in
     record {
-      value = rw (header, ← c.encoded_path_length.ensures.0, lt-leb _ _ c.if-bytes-encoded_path_length.true) refused;
-      expiry_le_largest_expiry = rw refused (omega arith);
+      value = rw (header, ← c.encoded_path_length.ensures.0, lt-leb _ _ c.if-bytes-encoded_path_length.true) Err;
+      expiry_le_largest_expiry = rw Err (omega arith);
     }
 
 -- the path was read
-read : (bytes : List ℕ) (m : PathMetaHeader) → read_meta bytes ≡ ok m → path_length m ≤ length bytes → spec.read_path bytes ≡ ok m
+read : (bytes : List ℕ) (m : PathMetaHeader) → read_meta bytes ≡ Ok m → path_length m ≤ length bytes → spec.read_path bytes ≡ Ok m
 unfolding spec.read_path
 read bytes m header whole = rw (header, le-leb _ _ whole)
 
