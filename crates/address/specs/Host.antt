@@ -1,13 +1,9 @@
 -- Hosts: the types that have a name, and the host kinds on the wire (the draft's DT and DL, ST and SL).
-use Rattle.std.specs.Prelude.{ℕ, ◌≡◌, cond, eqb}
+use Rattle.std.specs.Prelude.{ℕ, ◌≡◌, cond, eqb, Option, Some, None}
 use Rattle.address.specs.declared.host.HostAddr.{HostAddr}
 use Rattle.address.specs.declared.host.HostAddr.TheVariants as addr
 use Rattle.address.specs.declared.host.HostType.{HostType}
 use Rattle.address.specs.declared.host.HostType.TheVariants as type
-use Rattle.address.specs.declared.host.HostTypeRead.{HostTypeRead}
-use Rattle.address.specs.declared.host.HostTypeRead.TheVariants as read
-use Rattle.address.specs.declared.host.HostKind.{HostKind}
-use Rattle.address.specs.declared.host.HostKind.TheVariants as kind
 
 -- the type's own number
 abbrev pub host_type_number : HostType → ℕ
@@ -17,15 +13,15 @@ host_type_number type.Ipv6 = 2
 host_type_number type.Svc = 3
 
 -- the type of a number, and none above 3
-unfoldable pub host_type_of : ℕ → HostTypeRead
+unfoldable pub host_type_of : ℕ → Option HostType
 host_type_of byte =
-    cond (eqb byte 0) (read.Known type.None)
-    (cond (eqb byte 1) (read.Known type.Ipv4)
-    (cond (eqb byte 2) (read.Known type.Ipv6) (cond (eqb byte 3) (read.Known type.Svc) read.Unknown)))
+    cond (eqb byte 0) (Some type.None)
+    (cond (eqb byte 1) (Some type.Ipv4)
+    (cond (eqb byte 2) (Some type.Ipv6) (cond (eqb byte 3) (Some type.Svc) None)))
 
 -- the type of a type's own number is the type
 abbrev pub TypesReadBack : Type 0
-TypesReadBack = (t : HostType) → host_type_of (host_type_number t) ≡ read.Known t
+TypesReadBack = (t : HostType) → host_type_of (host_type_number t) ≡ Some t
 
 abbrev pub type_of_host : HostAddr → HostType
 type_of_host addr.V4 = type.Ipv4
@@ -38,8 +34,8 @@ host_kind addr.V4 = 0
 host_kind addr.V6 = 3
 host_kind (addr.Svc number) = 4
 
-abbrev pub kind_of_type : HostType → HostKind
-kind_of_type type.None = kind.Absent
-kind_of_type type.Ipv4 = kind.Kind 0
-kind_of_type type.Ipv6 = kind.Kind 3
-kind_of_type type.Svc = kind.Kind 4
+abbrev pub kind_of_type : HostType → Option ℕ
+kind_of_type type.None = None
+kind_of_type type.Ipv4 = Some 0
+kind_of_type type.Ipv6 = Some 3
+kind_of_type type.Svc = Some 4

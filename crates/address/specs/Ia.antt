@@ -1,8 +1,7 @@
 -- Network numbers (the draft's DstISD, DstAS, SrcISD, SrcAS): 64 bits, ISD the highest 16, AS the other 48.
-use Rattle.std.specs.Prelude.{ℕ, ◌+◌, ◌*◌, ◌/◌, ◌%◌, ◌^◌, ◌≡◌, Bool, ◌||◌, ltb, eqb, Result, Ok, Err}
+use Rattle.std.specs.Prelude.{ℕ, ◌+◌, ◌*◌, ◌/◌, ◌%◌, ◌^◌, ◌≡◌, Bool, ◌||◌, ltb, eqb, Option, Some, None, Result, Ok, Err}
 use Rattle.wire_encoding.specs.Result.{require, ◌>>◌}
-use Rattle.address.specs.declared.ia.NewIsdAsn.{NewIsdAsn}
-use Rattle.address.specs.declared.ia.NewIsdAsn.TheVariants as new
+use Rattle.address.specs.declared.ia.IsdAsn.{IsdAsn}
 
 abbrev pub isd_of : ℕ → ℕ
 isd_of number = number / 2 ^ 48
@@ -27,6 +26,7 @@ JoinedApart = (isd asn number : ℕ) → joined isd asn ≡ Ok number → (isd_o
 abbrev pub ApartJoined : Type 0
 ApartJoined = (number : ℕ) → joined (isd_of number) (asn_of number) ≡ Ok number
 
-abbrev pub answer_isd_asn : NewIsdAsn → Result ℕ ℕ
-answer_isd_asn (new.Value ia) = Ok ia.0
-answer_isd_asn new.TooWide = Err 10
+-- what the answer says
+abbrev pub joined_of : Option IsdAsn → Result ℕ ℕ
+joined_of (Some ia) = Ok ia.0
+joined_of None = Err 10

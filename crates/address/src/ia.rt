@@ -1,15 +1,24 @@
 // The number of a network: the ISD in its highest 16 bits, the AS in the other 48.
 ghost use Rattle.std.specs.Prelude.{◌≡◌};
-ghost use Rattle.address.specs.Ia.{isd_of, asn_of, is_wildcard, joined, answer_isd_asn};
+ghost use Rattle.address.specs.Ia.{isd_of, asn_of, is_wildcard, joined, joined_of};
 
-#[derive(Clone, Copy)]
+#[derive(Clone, Copy, Debug, PartialEq, Eq, Hash)]
 pub struct IsdAsn(pub u64);
 
-// An identifier, or an AS number wider than its 48 bits.
-#[derive(Clone, Copy)]
-pub enum NewIsdAsn {
-    Value(IsdAsn),
-    TooWide,
+impl From<u64> for IsdAsn {
+    ghost from_gives = { λ number ia. ia.0 ≡ number };
+
+    fn from(number: u64) -> IsdAsn {
+        IsdAsn(number)
+    }
+}
+
+impl From<IsdAsn> for u64 {
+    ghost from_gives = { λ ia number. number ≡ ia.0 };
+
+    fn from(ia: IsdAsn) -> u64 {
+        ia.0
+    }
 }
 
 impl IsdAsn {
@@ -23,14 +32,15 @@ impl IsdAsn {
 
     pub const MAX: IsdAsn = IsdAsn(0xFFFF_FFFF_FFFF_FFFF);
 
-    // The identifier of an ISD and an AS; an AS number wider than 48 bits is refused.
-    pub fn new(isd: u16, asn: u64) -> NewIsdAsn
-        ensures { answer_isd_asn result ≡ joined isd asn }
+    // The identifier of an ISD and an AS, unless the AS number has more than 48 bits.
+    #[tactic(auto, unfolding(crate::specs::Ia::joined))]
+    pub fn new(isd: u16, asn: u64) -> Option<IsdAsn>
+        ensures { joined_of result ≡ joined isd asn }
     {
         if asn < 0x1_0000_0000_0000 {
-            return NewIsdAsn::Value(IsdAsn(isd as u64 * 0x1_0000_0000_0000 + asn));
+            return Some(IsdAsn(isd as u64 * 0x1_0000_0000_0000 + asn));
         }
-        NewIsdAsn::TooWide
+        None
     }
 
     // The ISD: the highest 16 bits.
@@ -57,11 +67,5 @@ impl IsdAsn {
             return true;
         }
         self.asn() == 0
-    }
-
-    pub fn to_u64(self) -> u64
-        ensures { result ≡ self.0 }
-    {
-        self.0
     }
 }

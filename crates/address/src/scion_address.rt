@@ -7,7 +7,7 @@ use crate::host::HostAddr;
 use crate::ia::IsdAsn;
 
 // `bytes` begins with the bytes of an IP address; a service's stand in `host`.
-#[derive(Clone, Copy)]
+#[derive(Clone, Copy, Debug, PartialEq, Eq, Hash)]
 pub struct ScionAddr {
     pub isd_asn: IsdAsn,
     pub host: HostAddr,
@@ -29,24 +29,24 @@ impl ScionAddr {
     pub fn set_isd_asn(self, isd_asn: IsdAsn) -> ScionAddr
         ensures { result ≡ with_isd_asn self isd_asn }
     {
-        let host = self.host;
-        let bytes = self.bytes;
-        ScionAddr::new(isd_asn, host, bytes)
+        ScionAddr { isd_asn, ..self }
     }
 
     // Another host in the same network.
     pub fn set_host(self, host: HostAddr, bytes: [u8; 16]) -> ScionAddr
         ensures { result ≡ with_host self host bytes }
     {
-        let isd_asn = self.isd_asn;
-        ScionAddr::new(isd_asn, host, bytes)
+        ScionAddr {
+            host,
+            bytes,
+            ..self
+        }
     }
 
     // The host kind on the wire.
     pub fn kind(self) -> u8
         ensures { result ≡ host_kind self.host }
     {
-        let host = self.host;
-        host.kind()
+        self.host.kind()
     }
 }

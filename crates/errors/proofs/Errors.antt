@@ -1,11 +1,10 @@
--- The value beside a number; what an answer that was handed back says of the result that it tells.
+-- The value beside a number; what the number 0 says.
 -- Assumes nothing.
 use Prim.Native.Nat.{ℕ}
 use mathlib.Core.Path.{◌≡◌, refl, sym, ap}
 use native.Mathlib.Omega.{arith}
-use Rattle.std.specs.Prelude.{Result, Ok, Err}
-use Rattle.wire_encoding.specs.Result.{or_else}
-use Rattle.errors.specs.Errors.{kind_number, decode_number, decode_value, decoded_number, decoded_of, answer_of, encoded_of, ValueOfTwoAndThree}
+use Rattle.std.specs.Prelude.{true, Result, Ok, Err, is_ok}
+use Rattle.errors.specs.Errors.{kind_number, decode_number, decode_value, decoded_number, ValueOfTwoAndThree}
 use Rattle.errors.specs.declared.path_error.DataplanePathErrorKind.{DataplanePathErrorKind}
 use Rattle.errors.specs.declared.path_error.DataplanePathErrorKind.TheVariants as kind
 use Rattle.errors.specs.declared.packet_error.DecodeError.{DecodeError}
@@ -13,11 +12,6 @@ use Rattle.errors.specs.declared.path_error.PathError.{PathError}
 use Rattle.errors.specs.declared.packet_error.EncodeError.{EncodeError}
 use Rattle.errors.specs.declared.packet_error.DecodeError.TheVariants as decode
 use Rattle.errors.specs.declared.path_error.PathError.TheVariants as path
-use Rattle.errors.specs.declared.packet_error.Decoded.{Decoded}
-use Rattle.errors.specs.declared.packet_error.Decoded.TheVariants as decoded
-use Rattle.errors.specs.declared.path_error.Answer.{Answer}
-use Rattle.errors.specs.declared.path_error.Answer.TheVariants as answer
-use Rattle.errors.specs.declared.packet_error.Encoded.TheVariants as encoded
 
 -- VALUES
 
@@ -52,44 +46,6 @@ decode_number_lem (decode.InvalidHeaderLength factor) h = omega arith
 decode_number_lem (decode.InvalidPath kind) h = kind_number_lem kind h
 decode_number_lem decode.InconsistentPathLength h = omega arith
 
-pub zero_accepted : (told : Decoded) → decoded_number told ≡ 0 → told ≡ decoded.Accepted
-zero_accepted decoded.Accepted h = refl
-zero_accepted (decoded.Refused error) h = absurd (decode_number_lem error h)
-
--- ANSWERS
-
--- a record that was handed back: its answer and its value are the result's, with `zero` in the place of a value that was refused
-module _ {A : Type 0} where
-  -- of a reading
-  pub decoded_ok : (r : Result A DecodeError) (zero : A) {told : Decoded} {value : A} → told ≡ decoded_of r → value ≡ or_else r zero
-      → told ≡ decoded.Accepted → r ≡ Ok value
-  decoded_ok (Ok a) zero is same h = ap Ok (sym same)
-  decoded_ok (Err error) zero is same h = let z : ◌≡◌ {A = ℕ} 0 1 = cc in absurd (omega arith)
-
-  pub decoded_refused : (r : Result A DecodeError) {told : Decoded} {error : DecodeError} → told ≡ decoded_of r → told ≡ decoded.Refused error → r
-      ≡ Err error
-  decoded_refused (Ok a) is h = let z : ◌≡◌ {A = ℕ} 0 1 = cc in absurd (omega arith)
-  decoded_refused (Err error) is h = cc
-
-  -- of a call on a path
-  pub answer_ok : (r : Result A PathError) (zero : A) {told : Answer} {value : A} → told ≡ answer_of r → value ≡ or_else r zero
-      → told ≡ answer.Accepted → r ≡ Ok value
-  answer_ok (Ok a) zero is same h = ap Ok (sym same)
-  answer_ok (Err error) zero is same h = let z : ◌≡◌ {A = ℕ} 0 1 = cc in absurd (omega arith)
-
-  pub answer_refused : (r : Result A PathError) {told : Answer} {error : PathError} → told ≡ answer_of r → told ≡ answer.Refused error → r
-      ≡ Err error
-  answer_refused (Ok a) is h = let z : ◌≡◌ {A = ℕ} 0 1 = cc in absurd (omega arith)
-  answer_refused (Err error) is h = cc
-
-  -- the two ends of a call that writes: what it answers, with what the lent bytes then hold
-  pub written : (r : Result A EncodeError) (old : A) {new after : A} → r ≡ Ok new → after ≡ new → (encoded.Done ≡ encoded_of r)
-      × (after ≡ or_else r old)
-  unfolding encoded_of
-  written r old h e = rw h (refl, e)
-
-  pub kept : (r : Result A EncodeError) (old : A) {error : EncodeError} → encoded_of r ≡ encoded.Refused error
-      → (encoded.Refused error ≡ encoded_of r) × (old ≡ or_else r old)
-  unfolding encoded_of
-  kept (Ok a) old h = let z : ◌≡◌ {A = ℕ} 0 1 = cc in absurd (omega arith)
-  kept (Err error) old h = (sym h, refl)
+pub zero_accepted : {A : Type 0} (r : Result A DecodeError) → decoded_number r ≡ 0 → is_ok r ≡ true
+zero_accepted (Ok a) h = refl
+zero_accepted (Err error) h = absurd (decode_number_lem error h)

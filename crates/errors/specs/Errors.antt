@@ -1,20 +1,13 @@
 -- The answers: document 01's number of each refusal, and the value that 2 and 3 carry; 0 for what is accepted.
-use Rattle.std.specs.Prelude.{ℕ, ◌≡◌, Result}
-use Rattle.wire_encoding.specs.Result.{told}
+use Rattle.std.specs.Prelude.{ℕ, ◌≡◌, Result, Ok, Err}
 use Rattle.errors.specs.declared.path_error.DataplanePathErrorKind.{DataplanePathErrorKind}
 use Rattle.errors.specs.declared.path_error.DataplanePathErrorKind.TheVariants as kind
 use Rattle.errors.specs.declared.packet_error.DecodeError.{DecodeError}
 use Rattle.errors.specs.declared.packet_error.DecodeError.TheVariants as decode
 use Rattle.errors.specs.declared.path_error.PathError.{PathError}
 use Rattle.errors.specs.declared.path_error.PathError.TheVariants as path
-use Rattle.errors.specs.declared.packet_error.Decoded.{Decoded}
-use Rattle.errors.specs.declared.packet_error.Decoded.TheVariants as decoded
-use Rattle.errors.specs.declared.path_error.Answer.{Answer}
-use Rattle.errors.specs.declared.path_error.Answer.TheVariants as answer
 use Rattle.errors.specs.declared.packet_error.EncodeError.{EncodeError}
 use Rattle.errors.specs.declared.packet_error.EncodeError.TheVariants as encode
-use Rattle.errors.specs.declared.packet_error.Encoded.{Encoded}
-use Rattle.errors.specs.declared.packet_error.Encoded.TheVariants as encoded
 
 abbrev pub kind_number : DataplanePathErrorKind → ℕ
 kind_number kind.InvalidSegmentLengths = 4
@@ -60,38 +53,29 @@ encode_number encode.HeaderTooLarge = 12
 encode_number encode.PayloadTooLarge = 11
 encode_number encode.InadequateBufferSize = 9
 
-abbrev pub decoded_number : Decoded → ℕ
-decoded_number decoded.Accepted = 0
-decoded_number (decoded.Refused error) = decode_number error
+-- OF A RESULT: 0 where there is a value
 
-abbrev pub answer_number : Answer → ℕ
-answer_number answer.Accepted = 0
-answer_number (answer.Refused error) = path_number error
+abbrev pub decoded_number : {A : Type 0} → Result A DecodeError → ℕ
+decoded_number (Ok a) = 0
+decoded_number (Err error) = decode_number error
 
-abbrev pub encoded_number : Encoded → ℕ
-encoded_number encoded.Done = 0
-encoded_number (encoded.Refused error) = encode_number error
+abbrev pub answer_number : {A : Type 0} → Result A PathError → ℕ
+answer_number (Ok a) = 0
+answer_number (Err error) = path_number error
+
+abbrev pub encoded_number : {A : Type 0} → Result A EncodeError → ℕ
+encoded_number (Ok a) = 0
+encoded_number (Err error) = encode_number error
 
 -- 2 and 3 come with their value; it is zero for every other answer
-abbrev pub decoded_value : Decoded → ℕ
-decoded_value decoded.Accepted = 0
-decoded_value (decoded.Refused error) = decode_value error
+abbrev pub decoded_value : {A : Type 0} → Result A DecodeError → ℕ
+decoded_value (Ok a) = 0
+decoded_value (Err error) = decode_value error
 
-abbrev pub answer_value : Answer → ℕ
-answer_value answer.Accepted = 0
-answer_value (answer.Refused error) = path_value error
+abbrev pub answer_value : {A : Type 0} → Result A PathError → ℕ
+answer_value (Ok a) = 0
+answer_value (Err error) = path_value error
 
 -- a theorem: the value is zero unless the number is 2 or 3
 abbrev pub ValueOfTwoAndThree : Type 0
 ValueOfTwoAndThree = (error : PathError) → (path_number error ≡ 2 → ⊥) → (path_number error ≡ 3 → ⊥) → path_value error ≡ 0
-
--- A RESULT AS IT IS HANDED BACK
-
-abbrev pub decoded_of : {A : Type 0} → Result A DecodeError → Decoded
-decoded_of r = told r (λ a. decoded.Accepted) (λ error. decoded.Refused error)
-
-abbrev pub answer_of : {A : Type 0} → Result A PathError → Answer
-answer_of r = told r (λ a. answer.Accepted) (λ error. answer.Refused error)
-
-unfoldable pub encoded_of : {A : Type 0} → Result A EncodeError → Encoded
-encoded_of r = told r (λ a. encoded.Done) (λ error. encoded.Refused error)

@@ -5,7 +5,7 @@ ghost use Rattle.errors.specs.Errors.{decode_number, decode_value, encode_number
 use crate::path_error::DataplanePathErrorKind;
 
 // Why bytes can't be read.
-#[derive(Clone, Copy)]
+#[derive(Clone, Copy, Debug, PartialEq, Eq, Hash)]
 pub enum DecodeError {
     PacketEmptyOrTruncated,
     UnsupportedVersion(u8),
@@ -14,15 +14,8 @@ pub enum DecodeError {
     InconsistentPathLength,
 }
 
-// Whether bytes were read.
-#[derive(Clone, Copy)]
-pub enum Decoded {
-    Accepted,
-    Refused(DecodeError),
-}
-
 // Why headers can't be written.
-#[derive(Clone, Copy)]
+#[derive(Clone, Copy, Debug, PartialEq, Eq, Hash)]
 pub enum EncodeError {
     // A number wider than its field.
     NumberTooWide,
@@ -32,13 +25,6 @@ pub enum EncodeError {
     HeaderTooLarge,
     PayloadTooLarge,
     InadequateBufferSize,
-}
-
-// Whether headers were written: all of them, or nothing.
-#[derive(Clone, Copy)]
-pub enum Encoded {
-    Done,
-    Refused(EncodeError),
 }
 
 impl DecodeError {

@@ -1,11 +1,12 @@
 // Refusals of paths: what is wrong with a meta header, and why a call on a path is refused.
 ghost use Rattle.std.specs.Prelude.{◌≡◌};
+ghost use Rattle.errors.specs.declared.path_error.PathError.TheVariants.{Decode};
 ghost use Rattle.errors.specs.Errors.{kind_number, path_number, path_value};
 
 use crate::packet_error::DecodeError;
 
 // What is wrong with a meta header.
-#[derive(Clone, Copy)]
+#[derive(Clone, Copy, Debug, PartialEq, Eq, Hash)]
 pub enum DataplanePathErrorKind {
     InvalidSegmentLengths,
     InfoFieldOutOfRange,
@@ -13,7 +14,7 @@ pub enum DataplanePathErrorKind {
 }
 
 // Why a call on a path is refused.
-#[derive(Clone, Copy)]
+#[derive(Clone, Copy, Debug, PartialEq, Eq, Hash)]
 pub enum PathError {
     Decode(DecodeError),
     NoSuchField,
@@ -24,11 +25,13 @@ pub enum PathError {
     AtLastHopField,
 }
 
-// Whether a call was carried out.
-#[derive(Clone, Copy)]
-pub enum Answer {
-    Accepted,
-    Refused(PathError),
+// A path that can't be read is refused with the reader's own refusal.
+impl From<DecodeError> for PathError {
+    ghost from_gives = { λ error refusal. refusal ≡ Decode error };
+
+    fn from(error: DecodeError) -> PathError {
+        PathError::Decode(error)
+    }
 }
 
 impl DataplanePathErrorKind {

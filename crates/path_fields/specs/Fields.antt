@@ -1,15 +1,10 @@
 -- The draft's Info Field (P, C, RSV, Acc, Timestamp) and Hop Field (I, E, ExpTime, ConsIngress, ConsEgress, MAC), read at an offset.
-use Rattle.std.specs.Prelude.{ℕ, ◌+◌, ◌*◌, Bool, cond, List, length, get_or, replicate, eqb, Result, Ok}
+use Rattle.std.specs.Prelude.{ℕ, ◌+◌, ◌*◌, Bool, cond, List, length, get_or, replicate, eqb, Option, Some, None, Result, Ok}
 use Rattle.wire_encoding.specs.Bits.{bit_of, with_bit}
 use Rattle.wire_encoding.specs.BigEndian.{big_endian, part}
 use Rattle.wire_encoding.specs.Result.{require, ◌>>◌, or_else}
 use Rattle.path_fields.specs.declared.InfoField.{InfoField}
-use Rattle.path_fields.specs.declared.InfoFieldRead.{InfoFieldRead}
 use Rattle.path_fields.specs.declared.HopField.{HopField}
-use Rattle.path_fields.specs.declared.HopFieldRead.{HopFieldRead}
-use Rattle.path_fields.specs.declared.Interface.{Interface}
-use Rattle.path_fields.specs.declared.Interface.TheVariants as interface
-use Rattle.errors.specs.Errors.{answer_of}
 use Rattle.errors.specs.declared.path_error.PathError.{PathError}
 use Rattle.errors.specs.declared.path_error.PathError.TheVariants.{InadequateBufferSize}
 
@@ -38,10 +33,6 @@ unfoldable pub new_info_field : List ℕ → Result InfoField PathError
 new_info_field part = do
   require (eqb (length part) info_field_length) InadequateBufferSize
   Ok (info_field_at part 0)
-
--- as it is handed back; all zero where it is refused
-abbrev pub info_field_read : Result InfoField PathError → InfoFieldRead
-info_field_read r = record { answer = answer_of r; field = or_else r zero_info_field }
 
 -- the one at `at` among bytes; all zero where they end before it does
 abbrev pub info_field_in : List ℕ → ℕ → InfoField
@@ -83,10 +74,6 @@ new_hop_field part = do
   require (eqb (length part) hop_field_length) InadequateBufferSize
   Ok (hop_field_at part 0)
 
--- as it is handed back; all zero where it is refused
-abbrev pub hop_field_read : Result HopField PathError → HopFieldRead
-hop_field_read r = record { answer = answer_of r; field = or_else r zero_hop_field }
-
 -- the one at `at` among bytes; all zero where they end before it does
 abbrev pub hop_field_in : List ℕ → ℕ → HopField
 hop_field_in bytes at = or_else (new_hop_field (part at hop_field_length bytes)) zero_hop_field
@@ -105,9 +92,12 @@ with_flags flags hop =
 abbrev pub with_alert : ℕ → Bool → HopField → HopField
 with_alert bit on hop = with_flags (with_bit bit on hop.flags) hop
 
--- interface 0 means none
+-- the number of an interface; 0 on the wire means none
+abbrev pub Interface : Type 0
+Interface = Option ℕ
+
 unfoldable pub interface_of : ℕ → Interface
-interface_of number = cond (eqb number 0) interface.None (interface.Id number)
+interface_of number = cond (eqb number 0) None (Some number)
 
 -- direction clear exchanges ingress and egress
 unfoldable pub ingress_interface : InfoField → HopField → Interface

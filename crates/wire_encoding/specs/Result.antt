@@ -1,5 +1,6 @@
 -- A result: a value, or why there is none. What is read and what a call does is a chain of tests and steps; the first refusal is the result.
 use Rattle.std.specs.Prelude.{Bool, true, false, ⊤, Result, Ok, Err}
+use Rattle.std.specs.Result.{result_unwrap_or}
 
 -- refused with the error unless the test holds
 abbrev pub require : {E A : Type 0} → Bool → E → Result A E → Result A E
@@ -25,8 +26,7 @@ mapped f (Err error) = Err error
 
 -- the value, or what stands for it on a refusal
 abbrev pub or_else : {E A : Type 0} → Result A E → A → A
-or_else (Ok a) other = a
-or_else (Err error) other = other
+or_else r other = result_unwrap_or r other
 
 -- the refusals of a call below among this one's
 abbrev pub refusing : {E F A : Type 0} → (E → F) → Result A E → Result A F
