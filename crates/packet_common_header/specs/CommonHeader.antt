@@ -1,15 +1,13 @@
 -- The draft's Common Header: Version (4 bits), TrafficClass (8), FlowID (20), NextHdr, HdrLen, PayloadLen (2 bytes), PathType,
 -- DT and DL, ST and SL (the host kinds), RSV (2 bytes); what reading one finds, and what writing one does.
 use Rattle.std.specs.Prelude.{ℕ, ◌+◌, ◌*◌, ◌-◌, ◌/◌, ◌%◌, ◌^◌, Bool, ◌&&◌, not, List, [], ◌∷◌, ◌++◌, length, get_or, ltb, leb, eqb, Result, Ok}
-use Rattle.wire_encoding.specs.Result.{require, ◌>>◌, or_else}
+use Rattle.wire_encoding.specs.Result.{require, ◌>>◌}
 use Rattle.wire_encoding.specs.BigEndian.{big_endian, bytes_of}
 use Rattle.errors.specs.declared.packet_error.DecodeError.{DecodeError}
 use Rattle.errors.specs.declared.packet_error.DecodeError.TheVariants as decode
 use Rattle.errors.specs.declared.packet_error.EncodeError.{EncodeError}
 use Rattle.errors.specs.declared.packet_error.EncodeError.TheVariants as encode
 use Rattle.packet_common_header.specs.declared.CommonHeader.{CommonHeader}
-use Rattle.packet_common_header.specs.declared.CommonHeaderRead.{CommonHeaderRead}
-use Rattle.errors.specs.Errors.{decoded_of}
 
 -- the fields of the twelve bytes; a host kind is DT and DL, or ST and SL, as one number of 4 bits
 unfoldable pub common_at : List ℕ → CommonHeader
@@ -61,10 +59,6 @@ read_common bytes = do
 -- every field zero
 unfoldable pub zero_common : CommonHeader
 zero_common = common_at []
-
--- as it is handed back; all zero where it is refused
-unfoldable pub common_answer : Result CommonHeader DecodeError → CommonHeaderRead
-common_answer r = record { answer = decoded_of r; header = or_else r zero_common }
 
 -- WRITING
 

@@ -3,15 +3,13 @@
 
 ghost use Rattle.std.specs.Prelude.{◌≡◌, ◌≤◌, ◌<◌, length};
 ghost use Rattle.packet_common_header.specs.CommonHeader as spec;
-ghost use Rattle.wire_encoding.specs.Result.{or_else, refused};
-ghost use Rattle.errors.specs.Errors.{encoded_of};
+ghost use Rattle.wire_encoding.specs.Result.{done, or_else};
 
-use errors::packet_error::{DecodeError, Decoded, EncodeError, Encoded};
-use wire_encoding::read::{u16_or_zero, u32_or_zero, wide};
-use wire_encoding::write::put_slice;
+use errors::packet_error::{DecodeError, EncodeError};
+use wire_encoding::read::{get_or_zero, wide};
 
 // Every field, whatever its value. The host kinds are of 4 bits, as the version; the flow is of 20.
-#[derive(Clone, Copy)]
+#[derive(Clone, Copy, Debug, PartialEq, Eq, Hash)]
 pub struct CommonHeader {
     pub version: u8,
     pub traffic_class: u8,
@@ -25,15 +23,8 @@ pub struct CommonHeader {
     pub reserved: u16,
 }
 
-// A common header that was read; all zero where it was refused.
-#[derive(Clone, Copy)]
-pub struct CommonHeaderRead {
-    pub answer: Decoded,
-    pub header: CommonHeader,
-}
-
 // A host kind: 0 IPv4, 3 IPv6, 4 service, any other opaque.
-#[derive(Clone, Copy)]
+#[derive(Clone, Copy, Debug, PartialEq, Eq, Hash)]
 pub struct AddressInfo(pub u8);
 
 impl AddressInfo {
@@ -119,48 +110,43 @@ impl CommonHeader {
     }
 
     // Reads the common header that begins `bytes`.
-    #[tactic(auto, using(wire_encoding::proofs::BigEndian::or_zero_is), unfolding(crate::specs::CommonHeader::read_common, crate::specs::CommonHeader::common_at, crate::specs::CommonHeader::common_answer))]
-    pub fn decode(bytes: &[u8]) -> CommonHeaderRead
-        ensures { result ≡ spec.common_answer (spec.read_common bytes.now) }
+    #[tactic(auto, using(wire_encoding::proofs::BigEndian::or_zero_is), unfolding(crate::specs::CommonHeader::read_common, crate::specs::CommonHeader::common_at))]
+    pub fn decode(bytes: &[u8]) -> Result<CommonHeader, DecodeError>
+        ensures { result ≡ spec.read_common bytes.now }
     {
         if bytes.len() == 0 {
-            return CommonHeaderRead::refused(DecodeError::PacketEmptyOrTruncated);
+            return Err(DecodeError::PacketEmptyOrTruncated);
         }
         let version = bytes[0] / 16;
         if version != 0 {
-            return CommonHeaderRead::refused(DecodeError::UnsupportedVersion(version));
+            return Err(DecodeError::UnsupportedVersion(version));
         }
         if bytes.len() < CommonHeader::LENGTH {
-            return CommonHeaderRead::refused(DecodeError::PacketEmptyOrTruncated);
+            return Err(DecodeError::PacketEmptyOrTruncated);
         }
         let factor = bytes[5];
         if factor < CommonHeader::MIN_HEADER_LENGTH_FACTOR {
-            return CommonHeaderRead::refused(DecodeError::InvalidHeaderLength(factor));
+            return Err(DecodeError::InvalidHeaderLength(factor));
         }
-        let first = u32_or_zero(bytes, 0);
-        let payload_length = u16_or_zero(bytes, 6);
-        let reserved = u16_or_zero(bytes, 10);
+        let first: u32 = get_or_zero(bytes, 0);
         let kinds = bytes[CommonHeader::HOST_KINDS];
-        CommonHeaderRead {
-            answer: Decoded::Accepted,
-            header: CommonHeader {
-                version: (first / 0x1000_0000 % 16) as u8,
-                traffic_class: (first / 0x10_0000 % 256) as u8,
-                flow_id: first % 0x10_0000,
-                next_header: bytes[4],
-                header_length_factor: factor,
-                payload_length,
-                path_type: bytes[8],
-                destination_kind: kinds / 16,
-                source_kind: kinds % 16,
-                reserved,
-            },
-        }
+        Ok(CommonHeader {
+            version: (first / 0x1000_0000 % 16) as u8,
+            traffic_class: (first / 0x10_0000 % 256) as u8,
+            flow_id: first % 0x10_0000,
+            next_header: bytes[4],
+            header_length_factor: factor,
+            payload_length: get_or_zero(bytes, 6),
+            path_type: bytes[8],
+            destination_kind: kinds / 16,
+            source_kind: kinds % 16,
+            reserved: get_or_zero(bytes, 10),
+        })
     }
 
     // Writes the header to a destination of exactly 12 bytes, or leaves it as it is.
-    pub fn encode_to(self, dst: &mut [u8]) -> Encoded
-        ensures value { result ≡ encoded_of (spec.write_common self (length dst.old)) }
+    pub fn encode_to(self, dst: &mut [u8]) -> Result<(), EncodeError>
+        ensures value { result ≡ done (spec.write_common self (length dst.old)) }
         ensures dst_after { dst.new ≡ or_else (spec.write_common self (length dst.old)) dst.old }
     {
         if !fields_fit(
@@ -169,16 +155,16 @@ impl CommonHeader {
             self.destination_kind,
             self.source_kind,
         ) {
-            return Encoded::Refused(EncodeError::NumberTooWide);
+            return Err(EncodeError::NumberTooWide);
         }
         if self.header_length_factor == 0 {
-            return Encoded::Refused(EncodeError::InvalidHeaderLength);
+            return Err(EncodeError::InvalidHeaderLength);
         }
         if dst.len() != CommonHeader::LENGTH {
-            return Encoded::Refused(EncodeError::InadequateBufferSize);
+            return Err(EncodeError::InadequateBufferSize);
         }
-        let flow_id = self.flow_id;
-        let first = (self.version as u32 * 256 + self.traffic_class as u32) * 0x10_0000 + flow_id;
+        let first = (u32::from(self.version) * 256 + u32::from(self.traffic_class)) * 0x10_0000
+            + self.flow_id;
         let payload_length = self.payload_length;
         let reserved = self.reserved;
         let raw = [
@@ -195,19 +181,7 @@ impl CommonHeader {
             (reserved / 256) as u8,
             (reserved % 256) as u8,
         ];
-        put_slice(dst, 0, &raw);
-        Encoded::Done
-    }
-}
-
-impl CommonHeaderRead {
-    fn refused(error: DecodeError) -> CommonHeaderRead
-        ensures { result ≡ spec.common_answer (refused error) }
-    {
-        let header = CommonHeader::zero();
-        CommonHeaderRead {
-            answer: Decoded::Refused(error),
-            header,
-        }
+        dst.copy_from_slice(&raw);
+        Ok(())
     }
 }

@@ -7,14 +7,22 @@ use mathlib.Core.List.{List, [], ◌∷◌}
 use native.Mathlib.Omega.{arith}
 use lib.ListN.{length, get_or}
 use borrow.Author.Tests.{eq-eqb, ltb-true}
-use Rattle.std.specs.Prelude.{Ok, Err}
+use Rattle.std.specs.Prelude.{Option, Some, None, is_some, Ok, Err}
 use Rattle.wire_encoding.proofs.Result.{held, unmet}
 use Rattle.wire_encoding.specs.BigEndian.{bytes_of}
 use Rattle.wire_encoding.proofs.BigEndian.{length_bytes_of}
+use Rattle.wire_encoding.specs.Bounded.{bounded, bounded_of}
+use Rattle.wire_encoding.specs.declared.bounded.Bounded.{Bounded}
+use Rattle.wire_encoding.proofs.Widths.{was_value, was_wide}
 use Rattle.wire_encoding.proofs.Writes.{placed-whole}
 use Rattle.path_meta_header.specs.declared.PathMetaHeader.{PathMetaHeader}
 use Rattle.path_meta_header.specs.MetaHeader.{nth_field, meta_of, segment_length}
-use Rattle.path_meta_header.specs.Encoding.{meta_fits, word_of, as_word, write_meta}
+use Rattle.path_meta_header.specs.Encoding.{fits, meta_fits, word_of, as_word, write_meta}
+
+-- a bounded number is made of what has at most its bits
+pub bounded_fits : {width : ℕ} (r : Option (Bounded ℕ width)) (n : ℕ) → bounded_of (λ (m : ℕ). m) r ≡ bounded width n → is_some r ≡ fits width n
+bounded_fits {width} (Some m) n h = was_value width n h
+bounded_fits {width} None n h = was_wide width n h
 
 -- numbers that fit their fields
 pub record Fitting (m : PathMetaHeader) : Type 0 where

@@ -16,9 +16,6 @@ use Rattle.std.specs.Prelude.{Result, Ok, Err}
 use Rattle.errors.specs.declared.packet_error.DecodeError.{DecodeError}
 use Rattle.errors.specs.declared.packet_error.DecodeError.TheVariants.{InvalidPath}
 use Rattle.errors.specs.declared.path_error.DataplanePathErrorKind.TheVariants.{InvalidSegmentLengths}
-use Rattle.errors.specs.declared.packet_error.Decoded.TheVariants.{Accepted, Refused}
-use Rattle.errors.proofs.Errors as told
-use Rattle.path_meta_header.specs.declared.MetaRead.{MetaRead}
 use Rattle.path_meta_header.specs.MetaHeader.{segment_length, info_fields_count, hop_fields_count, segment_of, first_hop_field, segment_of_link}
 use Rattle.path_meta_header.specs.MetaHeader.{lengths_valid, info_valid, hop_valid, checked, nth_field, meta_of, meta_read, Link, Links}
 
@@ -361,15 +358,3 @@ checked_sound m h =
 pub sound_checked : (m : PathMetaHeader) → Sound m → checked m ≡ Ok m
 unfolding checked info_valid hop_valid
 sound_checked m s = rw (s.lengths, lt-ltb _ _ s.info, lt-ltb _ _ s.hop, eq-eqb _ _ s.segment)
-
--- WHAT A READER HANDS BACK
-
--- a caller of `decode` learns what was read
-module _ (r : Result PathMetaHeader DecodeError) {read : MetaRead} (is : read ≡ meta_read r) where
-  pub meta_ok : read.answer ≡ Accepted → r ≡ Ok read.meta_header
-  unfolding meta_read
-  meta_ok h = told.decoded_ok r (meta_of 0) (ap (λ (x : MetaRead). x.answer) is) (ap (λ (x : MetaRead). x.meta_header) is) h
-
-  pub meta_refused : {error : DecodeError} → read.answer ≡ Refused error → r ≡ Err error
-  unfolding meta_read
-  meta_refused h = told.decoded_refused r (ap (λ (x : MetaRead). x.answer) is) h

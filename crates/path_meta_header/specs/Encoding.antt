@@ -5,8 +5,6 @@ use Rattle.wire_encoding.specs.BigEndian.{big_endian, bytes_of}
 use Rattle.errors.specs.declared.packet_error.EncodeError.{EncodeError}
 use Rattle.errors.specs.declared.packet_error.EncodeError.TheVariants.{NumberTooWide, InadequateBufferSize}
 use Rattle.path_meta_header.specs.declared.PathMetaHeader.{PathMetaHeader}
-use Rattle.path_meta_header.specs.declared.Word.{Word}
-use Rattle.path_meta_header.specs.declared.Word.TheVariants as word
 use Rattle.path_meta_header.specs.MetaHeader.{meta_header_length, segment_length, meta_of, checked, read_meta}
 
 -- whether a number has at most `bits` bits
@@ -30,10 +28,6 @@ unfoldable pub as_word : PathMetaHeader → Result ℕ ℕ
 as_word m = do
   require (meta_fits m) 10
   Ok (word_of m)
-
-abbrev pub answer_word : Word → Result ℕ ℕ
-answer_word (word.Value n) = Ok n
-answer_word word.TooWide = Err 10
 
 -- what a destination of n bytes then holds; 01's order: a number too wide, another size
 unfoldable pub write_meta : PathMetaHeader → ℕ → Result (List ℕ) EncodeError

@@ -4,12 +4,6 @@ use Rattle.wire_encoding.specs.Result.{require, ◌>>◌, or_else}
 use Rattle.wire_encoding.specs.BigEndian.{big_endian, room}
 use Rattle.path_fields.specs.Fields.{info_field_length, hop_field_length}
 use Rattle.path_meta_header.specs.declared.PathMetaHeader.{PathMetaHeader}
-use Rattle.path_meta_header.specs.declared.MetaRead.{MetaRead}
-use Rattle.path_meta_header.specs.declared.Offset.{Offset}
-use Rattle.path_meta_header.specs.declared.Offset.TheVariants as offset
-use Rattle.path_meta_header.specs.declared.HopFieldOf.{HopFieldOf}
-use Rattle.path_meta_header.specs.declared.HopFieldOf.TheVariants as hop
-use Rattle.errors.specs.Errors.{decoded_of}
 use Rattle.errors.specs.declared.path_error.PathError.{PathError}
 use Rattle.errors.specs.declared.path_error.PathError.TheVariants as error
 use Rattle.errors.specs.declared.packet_error.DecodeError.{DecodeError}
@@ -81,10 +75,6 @@ hop_field_offset m j = do
   require (ltb j (hop_fields_count m)) error.NoSuchField
   Ok (hop_start m j)
 
-abbrev pub offset_found : Offset → Result ℕ PathError
-offset_found (offset.At start) = Ok start
-offset_found offset.NoSuchField = Err error.NoSuchField
-
 -- INTERFACES by the header alone: the links inside segments. A peering path has one link more, between its segments, which the calls by
 -- bytes count (crate path_interfaces)
 
@@ -105,10 +95,6 @@ unfoldable pub hop_field_of : PathMetaHeader → ℕ → Result ℕ PathError
 hop_field_of m i = do
   require (ltb i (interfaces_count m)) error.NoSuchField
   Ok (link_end m i)
-
-abbrev pub hop_field_found : HopFieldOf → Result ℕ PathError
-hop_field_found (hop.Index index) = Ok index
-hop_field_found hop.NoSuchInterface = Err error.NoSuchField
 
 -- READING
 
@@ -137,10 +123,6 @@ unfoldable pub read_meta : List ℕ → Result PathMetaHeader DecodeError
 read_meta bytes = do
   require (room bytes 0 meta_header_length) PacketEmptyOrTruncated
   checked (meta_of (big_endian meta_header_length bytes 0))
-
--- what a reader hands back: a header of zeros where it is refused
-unfoldable pub meta_read : Result PathMetaHeader DecodeError → MetaRead
-meta_read r = record { answer = decoded_of r; meta_header = or_else r (meta_of 0) }
 
 -- LINKS INSIDE SEGMENTS
 

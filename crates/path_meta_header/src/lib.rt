@@ -2,19 +2,19 @@
 #![tactic(auto)]
 
 ghost use Rattle.std.specs.Prelude.{◌≡◌, ◌≤◌, ◌<◌, ◌∷◌, [], length};
-ghost use Rattle.wire_encoding.specs.Result.{refused, or_else};
-ghost use Rattle.errors.specs.Errors.{encoded_of};
-ghost use Rattle.errors.specs.declared.packet_error.DecodeError.TheVariants.{InvalidPath};
+ghost use Rattle.std.specs.Option.{ok_or};
+ghost use Rattle.wire_encoding.specs.Result.{done, or_else};
+ghost use Rattle.errors.specs.declared.path_error.PathError.TheVariants.{NoSuchField};
 ghost use Rattle.path_meta_header.specs.MetaHeader as spec;
 ghost use Rattle.path_meta_header.specs.Encoding as encoding;
 ghost use Rattle.path_meta_header.specs.Reversal as reversal;
 
-use errors::packet_error::{DecodeError, Decoded, EncodeError, Encoded};
+use errors::packet_error::{DecodeError, EncodeError};
 use errors::path_error::DataplanePathErrorKind;
 use path_fields::{HopField, InfoField};
-use wire_encoding::bounded::{NewU2, NewU6, U2, U6};
-use wire_encoding::read::{Read32, get_u32, wide};
-use wire_encoding::write::put_u32;
+use wire_encoding::bounded::{Bounded, U2, U6};
+use wire_encoding::number::Number;
+use wire_encoding::read::{get, wide};
 
 // A 2-bit index into the info fields.
 pub type InfoFieldIndex = U2;
@@ -25,42 +25,14 @@ pub type SegmentLength = U6;
 // The 6 bits of a meta header that mean nothing yet.
 pub type PathMetaReserved = U6;
 
-// A header as one number, or a field wider than its bits.
-#[derive(Clone, Copy)]
-pub enum Word {
-    Value(u32),
-    TooWide,
-}
-
 // The pointers, the reserved bits and the three segment lengths. Each may hold any byte: writing one tests their widths.
 #[repr(C)]
-#[derive(Clone, Copy)]
+#[derive(Clone, Copy, Debug, PartialEq, Eq, Hash)]
 pub struct PathMetaHeader {
     pub current_info_field: u8,
     pub current_hop_field: u8,
     pub reserved: u8,
     pub segment_lengths: [u8; 3],
-}
-
-// A meta header that was read; all zero where it was refused.
-#[derive(Clone, Copy)]
-pub struct MetaRead {
-    pub answer: Decoded,
-    pub meta_header: PathMetaHeader,
-}
-
-// Where a field starts, or no such field.
-#[derive(Clone, Copy)]
-pub enum Offset {
-    At(usize),
-    NoSuchField,
-}
-
-// The index of a hop field, or no such interface.
-#[derive(Clone, Copy)]
-pub enum HopFieldOf {
-    Index(usize),
-    NoSuchInterface,
 }
 
 // Field n of the six fields of a meta header: 2 bits, then five times 6.
@@ -71,24 +43,12 @@ fn nth_field(fields: u32, n: u32) -> u8
     ((fields >> ((5 - n) * 6)) % 64) as u8
 }
 
-// Whether a number has at most 2 bits.
-fn fits_2(number: u8) -> bool
-    ensures { result ≡ encoding.fits 2 number }
+// Whether a number has at most `BITS` bits.
+#[tactic(auto, using(crate::proofs::Encoding::bounded_fits))]
+fn fits<const BITS: u32>(number: u8) -> bool
+    ensures { result ≡ encoding.fits BITS number }
 {
-    match InfoFieldIndex::new(number) {
-        NewU2::Value(_) => true,
-        NewU2::TooWide => false,
-    }
-}
-
-// Whether a number has at most 6 bits.
-fn fits_6(number: u8) -> bool
-    ensures { result ≡ encoding.fits 6 number }
-{
-    match HopFieldIndex::new(number) {
-        NewU6::Value(_) => true,
-        NewU6::TooWide => false,
-    }
+    Bounded::<u8, BITS>::new(number).is_some()
 }
 
 // The header of a path of these lengths, its pointers at the start.
@@ -156,24 +116,26 @@ impl PathMetaHeader {
     }
 
     // The hop field that interface `index` belongs to by the header alone, which does not tell a peering path.
-    pub fn hop_field_index_for_interface(self, index: usize) -> HopFieldOf
-        ensures { spec.hop_field_found result ≡ spec.hop_field_of self index }
+    #[tactic(auto, unfolding(crate::specs::MetaHeader::hop_field_of, crate::specs::MetaHeader::link_end))]
+    pub fn hop_field_index_for_interface(self, index: usize) -> Option<usize>
+        ensures { ok_or result NoSuchField ≡ spec.hop_field_of self index }
     {
         if self.interfaces_count() <= index {
-            return HopFieldOf::NoSuchInterface;
+            return None;
         }
         let link = index / 2;
-        HopFieldOf::Index(link + index % 2 + self.segment_of_link(link))
+        Some(link + index % 2 + self.segment_of_link(link))
     }
 
     // Where info field `index` starts.
-    pub fn info_field_offset(self, index: usize) -> Offset
-        ensures { spec.offset_found result ≡ spec.info_field_offset self index }
+    #[tactic(auto, unfolding(crate::specs::MetaHeader::info_field_offset))]
+    pub fn info_field_offset(self, index: usize) -> Option<usize>
+        ensures { ok_or result NoSuchField ≡ spec.info_field_offset self index }
     {
         if index < self.info_fields_count() {
-            return Offset::At(PathMetaHeader::LENGTH + index * InfoField::LENGTH);
+            return Some(PathMetaHeader::LENGTH + index * InfoField::LENGTH);
         }
-        Offset::NoSuchField
+        None
     }
 
     // Where the hop fields start: after the info fields.
@@ -184,13 +146,14 @@ impl PathMetaHeader {
     }
 
     // Where hop field `index` starts.
-    pub fn hop_field_offset(self, index: usize) -> Offset
-        ensures { spec.offset_found result ≡ spec.hop_field_offset self index }
+    #[tactic(auto, unfolding(crate::specs::MetaHeader::hop_field_offset))]
+    pub fn hop_field_offset(self, index: usize) -> Option<usize>
+        ensures { ok_or result NoSuchField ≡ spec.hop_field_offset self index }
     {
         if index < self.hop_fields_count() {
-            return Offset::At(self.hop_fields_start() + index * HopField::LENGTH);
+            return Some(self.hop_fields_start() + index * HopField::LENGTH);
         }
-        Offset::NoSuchField
+        None
     }
 
     // The length of the whole path in bytes.
@@ -283,22 +246,26 @@ impl PathMetaHeader {
     }
 
     // The rules of a meta header: lengths, info pointer, hop pointer.
-    fn check(self) -> MetaRead
-        ensures { result ≡ spec.meta_read (spec.checked self) }
+    #[tactic(auto, unfolding(crate::specs::MetaHeader::checked))]
+    fn check(self) -> Result<PathMetaHeader, DecodeError>
+        ensures { result ≡ spec.checked self }
     {
         if !self.lengths_valid() {
-            return MetaRead::invalid(DataplanePathErrorKind::InvalidSegmentLengths);
+            return Err(DecodeError::InvalidPath(
+                DataplanePathErrorKind::InvalidSegmentLengths,
+            ));
         }
         if !self.info_valid() {
-            return MetaRead::invalid(DataplanePathErrorKind::InfoFieldOutOfRange);
+            return Err(DecodeError::InvalidPath(
+                DataplanePathErrorKind::InfoFieldOutOfRange,
+            ));
         }
         if !self.hop_valid() {
-            return MetaRead::invalid(DataplanePathErrorKind::HopFieldOutOfRange);
+            return Err(DecodeError::InvalidPath(
+                DataplanePathErrorKind::HopFieldOutOfRange,
+            ));
         }
-        MetaRead {
-            answer: Decoded::Accepted,
-            meta_header: self,
-        }
+        Ok(self)
     }
 
     // The header that a word spells, whatever its values.
@@ -317,43 +284,34 @@ impl PathMetaHeader {
     }
 
     // Reads the meta header that begins `bytes`.
-    pub fn decode(bytes: &[u8]) -> MetaRead
-        ensures { result ≡ spec.meta_read (spec.read_meta bytes.now) }
+    #[tactic(auto, using(wire_encoding::proofs::BigEndian::was_read, wire_encoding::proofs::BigEndian::was_truncated), unfolding(crate::specs::MetaHeader::read_meta))]
+    pub fn decode(bytes: &[u8]) -> Result<PathMetaHeader, DecodeError>
+        ensures { result ≡ spec.read_meta bytes.now }
     {
-        match get_u32(bytes, 0) {
-            Read32::Value(fields) => PathMetaHeader::from_u32(fields).check(),
-            Read32::Truncated => MetaRead::refused(DecodeError::PacketEmptyOrTruncated),
-        }
+        let fields = get(bytes, 0).ok_or(DecodeError::PacketEmptyOrTruncated)?;
+        PathMetaHeader::from_u32(fields).check()
     }
 
     // WRITING, AND THE REVERSED PATH
 
     // Whether each number fits its field.
+    #[tactic(auto, unfolding(crate::specs::Encoding::meta_fits))]
     fn fields_fit(self) -> bool
         ensures { result ≡ encoding.meta_fits self }
     {
         let lengths = self.segment_lengths;
-        if !fits_2(self.current_info_field) {
-            return false;
-        }
-        if !fits_6(self.current_hop_field) {
-            return false;
-        }
-        if !fits_6(self.reserved) {
-            return false;
-        }
-        if !fits_6(lengths[0]) {
-            return false;
-        }
-        if !fits_6(lengths[1]) {
-            return false;
-        }
-        fits_6(lengths[2])
+        fits::<2>(self.current_info_field)
+            && fits::<6>(self.current_hop_field)
+            && fits::<6>(self.reserved)
+            && fits::<6>(lengths[0])
+            && fits::<6>(lengths[1])
+            && fits::<6>(lengths[2])
     }
 
-    // The header as one number.
-    pub fn as_u32(self) -> Word
-        ensures { encoding.answer_word result ≡ encoding.as_word self }
+    // The header as one number, unless a number is wider than its field.
+    #[tactic(auto, using(crate::proofs::Encoding::word_below, crate::proofs::Encoding::fitting), unfolding(crate::specs::Encoding::as_word, crate::specs::Encoding::word_of))]
+    pub fn as_u32(self) -> Option<u32>
+        ensures { ok_or result 10 ≡ encoding.as_word self }
     {
         let lengths = self.segment_lengths;
         if self.fields_fit() {
@@ -365,27 +323,23 @@ impl PathMetaHeader {
             let third = wide(lengths[2]);
             let number = ((((info * 64 + hop) * 64 + reserved) * 64 + first) * 64 + second) * 64
                 + third;
-            return Word::Value(number as u32);
+            return Some(number as u32);
         }
-        Word::TooWide
+        None
     }
 
-    // Writes the header to a destination of exactly 4 bytes.
-    #[tactic(auto, using(crate::proofs::Encoding::encodes), unfolding(crate::specs::Encoding::write_meta, errors::specs::Errors::encoded_of))]
-    pub fn encode_to(self, dst: &mut [u8]) -> Encoded
-        ensures value { result ≡ encoded_of (encoding.write_meta self (length dst.old)) }
+    // Writes the header to a destination of exactly 4 bytes, or leaves it as it is.
+    #[tactic(auto, using(crate::proofs::Encoding::encodes), unfolding(crate::specs::Encoding::write_meta, wire_encoding::specs::Result::done))]
+    pub fn encode_to(self, dst: &mut [u8]) -> Result<(), EncodeError>
+        ensures value { result ≡ done (encoding.write_meta self (length dst.old)) }
         ensures dst_after { dst.new ≡ or_else (encoding.write_meta self (length dst.old)) dst.old }
     {
-        match self.as_u32() {
-            Word::Value(number) => {
-                if dst.len() == PathMetaHeader::LENGTH {
-                    put_u32(dst, 0, number);
-                    return Encoded::Done;
-                }
-                Encoded::Refused(EncodeError::InadequateBufferSize)
-            }
-            Word::TooWide => Encoded::Refused(EncodeError::NumberTooWide),
+        let number = self.as_u32().ok_or(EncodeError::NumberTooWide)?;
+        if dst.len() == PathMetaHeader::LENGTH {
+            number.write_be(dst);
+            return Ok(());
         }
+        Err(EncodeError::InadequateBufferSize)
     }
 
     // The header of the reversed path: pointers and reserved bits zero, the I lengths in opposite order.
@@ -406,25 +360,5 @@ impl PathMetaHeader {
             return at_start(second, first, 0);
         }
         at_start(third, second, first)
-    }
-}
-
-impl MetaRead {
-    // A refused header is all zero.
-    fn refused(error: DecodeError) -> MetaRead
-        ensures { result ≡ spec.meta_read (refused error) }
-    {
-        let meta_header = PathMetaHeader::from_u32(0);
-        MetaRead {
-            answer: Decoded::Refused(error),
-            meta_header,
-        }
-    }
-
-    // A header that breaks one of its rules.
-    fn invalid(kind: DataplanePathErrorKind) -> MetaRead
-        ensures { result ≡ spec.meta_read (refused (InvalidPath kind)) }
-    {
-        MetaRead::refused(DecodeError::InvalidPath(kind))
     }
 }

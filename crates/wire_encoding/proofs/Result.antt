@@ -5,7 +5,7 @@ use mathlib.Core.Path.{◌≡◌, refl, sym}
 use mathlib.Core.Bool.{Bool, true, false}
 use native.Mathlib.Omega.{arith}
 use Rattle.std.specs.Prelude.{Result, Ok, Err}
-use Rattle.wire_encoding.specs.Result.{require, and_then, mapped, or_else, refusing}
+use Rattle.wire_encoding.specs.Result.{require, and_then, mapped, or_else, refusing, done}
 
 module _ {E A : Type 0} where
   -- no result is both
@@ -62,3 +62,13 @@ module _ {E A B C D : Type 0} (step : A → Result B E) (f : A → B → C) (g :
       go (Ok b) h = absurd (not_both (sym h))
       go (Err e) h = cc
   refused_alike (Err e) h = cc
+
+module _ {E A : Type 0} where
+  -- the two ends of a call that writes: what it answers, and what the lent bytes then hold
+  pub written_done : (r : Result A E) (old : A) {new after : A} → r ≡ Ok new → after ≡ new → (Ok tt ≡ done r) × (after ≡ or_else r old)
+  unfolding done
+  written_done r old h e = rw h (refl, e)
+
+  pub refused_done : (r : Result A E) (old : A) {error : E} → r ≡ Err error → (Err error ≡ done r) × (old ≡ or_else r old)
+  unfolding done
+  refused_done r old h = rw h (refl, refl)

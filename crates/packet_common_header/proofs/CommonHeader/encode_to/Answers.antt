@@ -6,9 +6,8 @@ use Prim.Native.Nat.{◌<◌, ◌^◌}
 use lib.ListN.{length}
 use native.Mathlib.Omega.{arith}
 use borrow.Author.Tests.{eq-eqb, ne_eqb}
-use Rattle.errors.specs.Errors.{encoded_of}
-use Rattle.errors.proofs.Errors.{written}
-use Rattle.wire_encoding.proofs.Writes.{placed-whole}
+use Rattle.wire_encoding.specs.Result.{done}
+use Rattle.wire_encoding.proofs.Result.{written_done}
 use Rattle.packet_common_header.specs.declared.CommonHeader.{CommonHeader}
 use Rattle.packet_common_header.specs.CommonHeader.{fields_fit, common_fits, common_bytes, write_common}
 use Rattle.packet_common_header.proofs.CommonHeaderLaws.{length-common_bytes, common_widths, common_written, Fields, first_fits}
@@ -27,15 +26,15 @@ typed : (h : CommonHeader) → common_fits h ≡ true → h.traffic_class < 256 
 typed h fit class payload reserved = record { widths = common_widths h fit; class = class; payload = payload; reserved = reserved }
 
 pub returns-then-not-fields_fit : goal.returns-then-not-fields_fit
-unfolding write_common common_fits encoded_of
+unfolding write_common common_fits done
 returns-then-not-fields_fit c = rw (← c.fields_fit.ensures, c.if-not-fields_fit.true) (record { value = refl; dst_after = refl })
 
 pub returns-then-self-eq0 : goal.returns-then-self-eq0
-unfolding write_common encoded_of
+unfolding write_common done
 returns-then-self-eq0 c = rw (fits c.args.self _ c.fields_fit.ensures c.if-not-fields_fit.false, eq-eqb _ _ c.if-self-eq0.true) (record { value = refl; dst_after = refl })
 
 pub returns-then-dst-ne-LENGTH : goal.returns-then-dst-ne-LENGTH
-unfolding write_common encoded_of
+unfolding write_common done
 returns-then-dst-ne-LENGTH c = rw (fits c.args.self _ c.fields_fit.ensures c.if-not-fields_fit.false, ne_eqb _ _ c.if-self-eq0.false, ne_eqb _ _ c.if-dst-ne-LENGTH.true) (record { value = refl; dst_after = refl })
 
 pub overflow_mul-first-2 : goal.overflow_mul-first-2
@@ -60,6 +59,6 @@ returns c =
     let fit = fits header _ c.fields_fit.ensures c.if-not-fields_fit.false in
     let digits = common_digits header (typed header fit (search rules) (search rules) (search rules)) in
     let exact = c.if-dst-ne-LENGTH.false in
-    let both = written (write_common header (length args.dst.now)) args.dst.now (common_written header _ fit c.if-self-eq0.false exact)
-    (rw digits at c.put_slice.ensures.dst_after ∙ placed-whole (common_bytes header) args.dst.now (length-common_bytes header ∙ sym exact)) in
+    let both = written_done (write_common header (length args.dst.now)) args.dst.now (common_written header (length args.dst.now) fit c.if-self-eq0.false exact)
+    (c.copy_from_slice.ensures.after ∙ digits) in
     record { value = both.0; dst_after = both.1 }
