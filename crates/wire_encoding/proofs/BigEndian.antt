@@ -1,18 +1,19 @@
 -- Numbers on the wire, one law over the width for each fact.
 -- Assumes nothing.
 use mathlib.Core.Path.{◌≡◌, refl, sym, ap, ap₂, ◌∙◌}
-use mathlib.Core.Bool.{Bool, true, false}
+use mathlib.Core.Bool.{true, false}
 use mathlib.Core.List.{List, [], ◌∷◌, ◌++◌, append_assoc}
-use Prim.Native.Nat.{ℕ, zero, suc, ◌+◌, ◌-◌, ◌*◌, ◌/◌, ◌%◌, ◌^◌, ◌<◌, ◌≤◌}
-use native.Mathlib.Nat.{suc-mul, mod-one, pow-suc, pow-le-pow_right, one-le-pow, zero-lt-suc}
+use Prim.Native.Nat.{ℕ, zero, suc, ◌+◌, ◌*◌, ◌/◌, ◌%◌, ◌^◌, ◌<◌, ◌≤◌}
+use native.Mathlib.Nat.{div-div-eq-div-mul, mul_comm, suc-mul, mod-one, pow-suc, one-le-pow, zero-lt-suc}
 use native.Mathlib.Numerals.{add-one}
 use native.Mathlib.Omega.{arith}
 use lib.Arith.{mod-mul, digits_div, digits_mod}
-use lib.Dec.{lit<, leb}
+use lib.Dec.{lit<}
 use lib.ListN.{length, get_or, take, drop, length-append, length-drop, get_or-append}
 use lib.Seq.{sets, sets-eq, get_or-append-add, get_or-append_seam, get_or-take, get_or-drop, length-take-le, take-append-le, drop-append-le}
-use borrow.Author.Tests.{le-leb, lt-leb, leb-true, leb-false}
+use borrow.Author.Tests.{le-leb, lt-leb}
 use Rattle.std.specs.Prelude.{Result, Ok, Err}
+use Rattle.std.specs.Int.{byte_at, bytes_high_first}
 use Rattle.wire_encoding.specs.Result.{or_else}
 use Rattle.wire_encoding.specs.BigEndian.{big_endian, bytes_of, room, number_at, part, records, NumbersReadBack, BytesReadBack, NumbersBelow}
 use Rattle.wire_encoding.proofs.Result.{held, unmet}
@@ -24,28 +25,6 @@ module _ (bytes : List ℕ) (b : Bytes bytes) (at : ℕ) where
   unfolding big_endian
   below zero = lit< tt
   below (suc width) = omega (arith, below width, b (at + width), pow-suc 256 width)
-
-  -- and below 2 ^ 64, whichever width is read
-  pub below_widest : (width : ℕ) → width ≤ 8 → big_endian width bytes at < 2 ^ 64
-  below_widest width h = omega (arith, below width, pow-le-pow_right {n = 256} (lit< tt) h)
-
-  -- the next byte of a number that is narrower than the widest fits
-  pub next_fits : (width : ℕ) → width < 8 → big_endian width bytes at * 256 + get_or bytes (at + width) 0 < 2 ^ 64
-  unfolding big_endian
-  next_fits width h = below_widest (suc width) h
-
--- one byte more, as a loop takes it
-pub more : (bytes : List ℕ) (at width : ℕ) → big_endian (width + 1) bytes at ≡ big_endian width bytes at * 256 + get_or bytes (at + width) 0
-unfolding big_endian
-more bytes at width = rw add-one
-
--- n bytes fit after an offset that lies inside where they fit into what is left there
-pub room-left : (len at n : ℕ) → at ≤ len → leb n (len - at) ≡ leb (at + n) len
-room-left len at n inside = go (leb n (len - at)) refl
-  where
-    go : (t : Bool) → leb n (len - at) ≡ t → leb n (len - at) ≡ leb (at + n) len
-    go true e = e ∙ sym (le-leb (at + n) len (omega (arith, leb-true n (len - at) e)))
-    go false e = e ∙ sym (lt-leb (at + n) len (omega (arith, leb-false n (len - at) e)))
 
 -- the two answers of a reader at any width
 module _ (width : ℕ) (bytes : List ℕ) (at : ℕ) where
@@ -174,3 +153,24 @@ bytes_read_back width bytes b at h = bytes_read width bytes (λ i. omega (arith,
 
 pub numbers_below : NumbersBelow
 numbers_below bytes b at width = below bytes (λ i. omega (arith, b i)) at width
+
+-- THE LIBRARY'S NUMBERS
+
+-- the bytes of a number are the library's: the highest first, whether the lowest or the highest is taken off
+pub high_first : (width n : ℕ) → bytes_of width n ≡ bytes_high_first width n
+unfolding bytes_of
+high_first zero n = refl
+high_first (suc width) n = first width n ∙ ap (λ (r : List ℕ). byte_at width n ∷ r) (high_first width n)
+  where
+    above : (i n : ℕ) → byte_at i (n / 256) ≡ byte_at (suc i) n
+    above zero n = refl
+    above (suc i) n =
+        ap (λ (m : ℕ). m % 256)
+        (div-div-eq-div-mul n 256 (256 ^ suc i) ∙ ap (λ (m : ℕ). n / m) (mul_comm 256 (256 ^ suc i) ∙ sym (pow-suc 256 (suc i))))
+
+    first : (width n : ℕ) → bytes_of width (n / 256) ++ (n % 256 ∷ []) ≡ byte_at width n ∷ bytes_of width n
+    first zero n = refl
+    first (suc width) n = ap (λ (r : List ℕ). r ++ (n % 256 ∷ [])) (first width (n / 256)) ∙ ap (λ (b : ℕ). b ∷ bytes_of (suc width) n) (above width n)
+
+-- what a reader's goals need: its two answers, and the number of a part
+pub ruleset reads = (found, truncated, read_part)

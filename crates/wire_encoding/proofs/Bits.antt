@@ -11,7 +11,8 @@ use lib.Bits.{bit_and, bit_or, bit_xor, differ, or_block, and_block, xor_block, 
 use lib.Arith.{bin_ind, digits_div, digits_mod}
 use borrow.Author.Tests.{eq-eqb, ne_eqb, eqb-true, eqb-false}
 use lib.Dec.{lit<}
-use lib.Pow.{split, pow_pos}
+use lib.Pow.{split, pow_pos, pow-add}
+use Rattle.std.proofs.lemmas.Nat.{one_shl, div_below}
 use Rattle.wire_encoding.specs.Bits.{bit_of, with_bit, OneBit, OtherBitsStay}
 
 -- how each operation acts on the lowest bit
@@ -132,6 +133,30 @@ module _ (k n : ℕ) where
     above = omega (arith, above_taken e);
     below = sym (ap (λ (m : ℕ). m % 2 ^ k) (taken e) ∙ mod_more (n - 2 ^ k));
   }
+
+-- the same two in a byte, where a shift makes the mask
+module _ (k n : ℕ) (inside : k < 8) where
+  pub shift_sets : with_bit k true n ≡ bit_or n (1 * 2 ^ k % 256)
+  shift_sets = sym (ap (bit_or n) (one_shl k 8 inside) ∙ set_bit k n)
+
+  pub shift_clears : n < 256 → with_bit k false n ≡ bit_and n (255 - 1 * 2 ^ k % 256)
+  shift_clears byte =
+      let seven : 7 - k + k ≡ 7 = omega arith in
+      let whole : 2 ^ (7 - k) * 2 ^ k ≡ 2 ^ 7 = sym (pow-add 2 (7 - k) k) ∙ ap (λ (i : ℕ). 2 ^ i) seven in
+      let high : n / 2 ^ k / 2 < 2 ^ (7 - k) =
+      div_below (n / 2 ^ k) 2 (2 ^ (7 - k)) (lit< tt)
+      (div_below n (2 ^ k) (2 ^ (7 - k) * 2) (pow_pos k) (omega (arith, doubled (2 ^ (7 - k)) (2 ^ k) whole))) in
+      sym (clear_bit k n (7 - k) high) ∙ ap (bit_and n) (others (2 ^ (7 - k)) (2 ^ k) whole ∙ ap (λ (m : ℕ). 255 - m) (sym (one_shl k 8 inside)))
+    where
+      doubled : (a b : ℕ) → a * b ≡ 128 → a * 2 * b ≡ 256
+      doubled a b h = grind arith
+
+      others : (a b : ℕ) → a * b ≡ 128 → (a - 1) * 2 * b + (b - 1) ≡ 255 - b
+      others zero b h = omega arith
+      others (suc a) b h = grind arith
+
+-- what a byte's bit set or cleared needs
+pub ruleset shifts = (shift_sets, shift_clears)
 
 pub bit_kept : OtherBitsStay
 unfolding with_bit

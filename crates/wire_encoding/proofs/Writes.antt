@@ -1,67 +1,18 @@
--- The loops that write, and the two answers of a writer.
+-- The two answers of a writer, and what a run that is written leaves.
 -- Assumes nothing.
 use mathlib.Core.Path.{◌≡◌, refl, sym, ap, ◌∙◌}
-use mathlib.Core.List.{List, [], ◌∷◌, ◌++◌, append_assoc}
-use Prim.Native.Nat.{ℕ, zero, suc, ◌+◌, ◌-◌, ◌/◌, ◌%◌, ◌≤◌, ◌<◌}
-use native.Mathlib.Nat.{add-suc}
-use native.Mathlib.Numerals.{add-one, sub-one}
+use mathlib.Core.List.{List, ◌++◌, append_assoc}
+use Prim.Native.Nat.{ℕ, ◌+◌, ◌≤◌, ◌<◌}
 use native.Mathlib.Omega.{arith}
-use lib.ListN.{length, get_or, set, take, drop, length-set, drop_of_length-le}
-use lib.Seq.{sets, sets-eq, drop-cons, drop-drop, length-sets}
+use lib.ListN.{length, take, drop}
+use lib.Seq.{sets, sets-eq, drop-drop, length-sets}
 use borrow.Author.Tests.{le-leb, lt-leb}
 use mathlib.Core.Bool.{Bool, true, false}
 use Rattle.std.specs.Prelude.{Ok, Err}
 use Rattle.wire_encoding.specs.Result.{require, or_else}
 use Rattle.wire_encoding.specs.BigEndian.{bytes_of, number_at, part, room, written, placed}
-use Rattle.wire_encoding.proofs.Lists.{Bytes, length_part, sets-append, set-sets, sets-whole}
+use Rattle.wire_encoding.proofs.Lists.{Bytes, length_part, sets-whole}
 use Rattle.wire_encoding.proofs.BigEndian.{or_zero_is, length_bytes_of, bytes_read}
-
--- what is left of a number, written to dst as it is now, gives what is wanted
-pub record NumberLeft (goal dst₀ dst : List ℕ) (at left rest : ℕ) : Type 0 where
-  pub writes : sets dst at (bytes_of left rest) ≡ goal
-  pub inside : at + left ≤ length dst
-  pub len : length dst ≡ length dst₀
-
-pub number_step : (goal dst₀ dst : List ℕ) (at left rest : ℕ) → 0 < left → NumberLeft goal dst₀ dst at left rest
-    → NumberLeft goal dst₀ (set dst (at + (left - 1)) (rest % 256)) at (left - 1) (rest / 256)
-unfolding bytes_of
-number_step goal dst₀ dst at zero rest h i = elim h [ ]
-number_step goal dst₀ dst at (suc n) rest h i =
-    let l : length (bytes_of n (rest / 256)) ≡ n = length_bytes_of n (rest / 256) in
-    simp sub-one (record {
-      writes =
-          sym (set-sets (bytes_of n (rest / 256)) dst at (at + n) (rest % 256) (omega arith))
-          ∙ sym (ap (λ (k : ℕ). sets (sets dst at (bytes_of n (rest / 256))) (at + k) (rest % 256 ∷ [])) l)
-          ∙ sym (sets-append (bytes_of n (rest / 256)) (rest % 256 ∷ []) dst at)
-          ∙ i.writes;
-      inside = simp length-set (omega arith);
-      len = simp length-set i.len;
-    })
-
-pub number_done : (goal dst₀ dst : List ℕ) (at left rest : ℕ) → left ≤ 0 → NumberLeft goal dst₀ dst at left rest → dst ≡ goal
-unfolding bytes_of
-number_done goal dst₀ dst at zero rest h i = i.writes
-number_done goal dst₀ dst at (suc _) rest h i = elim h [ ]
-
--- what is left of a run of bytes, written to dst as it is now, gives what is wanted
-pub record RunLeft (src goal dst₀ dst : List ℕ) (at i : ℕ) : Type 0 where
-  pub writes : sets dst (at + i) (drop i src) ≡ goal
-  pub passed : i ≤ length src
-  pub inside : at + length src ≤ length dst
-  pub len : length dst ≡ length dst₀
-
-pub run_step : (src goal dst₀ dst : List ℕ) (at i : ℕ) → i < length src → RunLeft src goal dst₀ dst at i
-    → RunLeft src goal dst₀ (set dst (at + i) (get_or src i 0)) at (i + 1)
-run_step src goal dst₀ dst at i h r = record {
-  writes =
-      simp (add-one, add-suc) (ap (sets dst (at + i)) (sym (drop-cons src i 0 h)) ∙ r.writes);
-  passed = omega arith;
-  inside = simp length-set r.inside;
-  len = simp length-set r.len;
-}
-
-pub run_done : (src goal dst₀ dst : List ℕ) (at i : ℕ) → length src ≤ i → RunLeft src goal dst₀ dst at i → dst ≡ goal
-run_done src goal dst₀ dst at i h r = sym (ap (sets dst (at + i)) (drop_of_length-le src {i = i} h)) ∙ r.writes
 
 -- the two answers of a writer of a run of n bytes
 module _ (dst : List ℕ) (at : ℕ) (run : List ℕ) (n : ℕ) (size : length run ≡ n) where
@@ -118,3 +69,6 @@ number_copied width src dst from to b there room {n} read e =
     e
     ∙ placed_is dst to (bytes_of width n) width (length_bytes_of width n) room
     ∙ ap (sets dst to) (ap (bytes_of width) (read ∙ or_zero_is width src from there) ∙ bytes_read width src b from there)
+
+-- what a writer's goals need: its two answers, and a lent part that was written
+pub ruleset writes = (done, no_room, lent_run, length_bytes_of)

@@ -10,4 +10,4 @@ number_of value None = Err 1
 -- a run of bytes that was written
 abbrev pub put_answer : Result (List ℕ) ℕ → Result ⊤ InadequateBufferSize
 put_answer (Ok bytes) = Ok tt
-put_answer (Err number) = Err (record { })
+put_answer (Err number) = Err (record {})

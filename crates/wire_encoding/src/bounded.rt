@@ -21,6 +21,7 @@ impl<T: Number, const WIDTH: u32> Bounded<T, WIDTH> {
     pub const BITS: u32 = WIDTH;
 
     // The number, unless it has more bits.
+    #[tactic(auto, using(crate::proofs::Widths::widths))]
     pub fn new(value: T) -> Option<Bounded<T, WIDTH>>
         ensures { bounded_of T.value result ≡ bounded WIDTH (T.value value) }
     {

@@ -34,10 +34,12 @@ impl Number for u8 {
 
     const WIDTH: usize = 1;
 
+    #[tactic(auto, unfolding(crate::specs::BigEndian::big_endian))]
     fn from_be(bytes: &[u8]) -> u8 {
         bytes[0]
     }
 
+    #[tactic(auto, unfolding(crate::specs::BigEndian::bytes_of))]
     fn write_be(self, dst: &mut [u8]) {
         dst[0] = self;
     }
@@ -58,12 +60,14 @@ impl Number for u16 {
 
     const WIDTH: usize = 2;
 
+    #[tactic(auto, unfolding(crate::specs::BigEndian::big_endian))]
     fn from_be(bytes: &[u8]) -> u16 {
         u16::from_be_bytes([bytes[0], bytes[1]])
     }
 
+    #[tactic(auto, using(crate::proofs::BigEndian::high_first))]
     fn write_be(self, dst: &mut [u8]) {
-        dst.copy_from_slice(&self.to_be_bytes());
+        dst.copy_from_slice(&u16::to_be_bytes(self));
     }
 
     fn to_u64(self) -> u64 {
@@ -82,12 +86,14 @@ impl Number for u32 {
 
     const WIDTH: usize = 4;
 
+    #[tactic(auto, unfolding(crate::specs::BigEndian::big_endian))]
     fn from_be(bytes: &[u8]) -> u32 {
         u32::from_be_bytes([bytes[0], bytes[1], bytes[2], bytes[3]])
     }
 
+    #[tactic(auto, using(crate::proofs::BigEndian::high_first))]
     fn write_be(self, dst: &mut [u8]) {
-        dst.copy_from_slice(&self.to_be_bytes());
+        dst.copy_from_slice(&u32::to_be_bytes(self));
     }
 
     fn to_u64(self) -> u64 {
@@ -106,14 +112,16 @@ impl Number for u64 {
 
     const WIDTH: usize = 8;
 
+    #[tactic(auto, unfolding(crate::specs::BigEndian::big_endian))]
     fn from_be(bytes: &[u8]) -> u64 {
         u64::from_be_bytes([
             bytes[0], bytes[1], bytes[2], bytes[3], bytes[4], bytes[5], bytes[6], bytes[7],
         ])
     }
 
+    #[tactic(auto, using(crate::proofs::BigEndian::high_first))]
     fn write_be(self, dst: &mut [u8]) {
-        dst.copy_from_slice(&self.to_be_bytes());
+        dst.copy_from_slice(&u64::to_be_bytes(self));
     }
 
     fn to_u64(self) -> u64 {

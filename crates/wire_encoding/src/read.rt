@@ -34,6 +34,7 @@ pub fn part_of(bytes: &[u8], start: usize, len: usize) -> &[u8]
 }
 
 // The number at `at`, unless there are too few bytes for it.
+#[tactic(auto, using(crate::proofs::BigEndian::reads))]
 pub fn get<T: Number>(bytes: &[u8], at: usize) -> Option<T>
     ensures { number_of T.value result ≡ number_at T.WIDTH bytes.now at }
 {

@@ -11,6 +11,7 @@ use crate::read::has_room;
 pub struct InadequateBufferSize;
 
 // Writes a number at `at`, or nothing.
+#[tactic(auto, using(crate::proofs::Writes::writes))]
 pub fn put<T: Number>(dst: &mut [u8], at: usize, number: T) -> Result<(), InadequateBufferSize>
     ensures value { result ≡ put_answer (written dst.old at (bytes_of T.WIDTH (T.value number))) }
     ensures dst_after { dst.new ≡ placed dst.old at (bytes_of T.WIDTH (T.value number)) }
@@ -23,6 +24,7 @@ pub fn put<T: Number>(dst: &mut [u8], at: usize, number: T) -> Result<(), Inadeq
 }
 
 // Writes the bytes of `src` at `at`, all of them or none.
+#[tactic(auto, using(crate::proofs::Writes::writes))]
 pub fn put_slice(dst: &mut [u8], at: usize, src: &[u8]) -> Result<(), InadequateBufferSize>
     ensures value { result ≡ put_answer (written dst.old at src.now) }
     ensures dst_after { dst.new ≡ placed dst.old at src.now }
