@@ -71,7 +71,7 @@ impl From<HostType> for u8 {
 impl TryFrom<u8> for HostType {
     type Error = UnknownHostType;
 
-    ghost try_from_gives = { λ byte read. read ≡ ok_or (host_type_of byte) (record { }) };
+    ghost try_from_gives = { λ byte read. read ≡ ok_or (host_type_of byte) (record {}) };
 
     #[tactic(auto, unfolding(crate::specs::Host::host_type_of))]
     fn try_from(byte: u8) -> Result<HostType, UnknownHostType> {

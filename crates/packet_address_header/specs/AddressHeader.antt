@@ -1,8 +1,8 @@
 -- The draft's Address Header: DstISD and DstAS, SrcISD and SrcAS (a network number of 64 bits each), DstHostAddr, SrcHostAddr; what
 -- reading one finds, and what writing one does.
-use Rattle.std.specs.Prelude.{ℕ, ◌+◌, true, false, cond, ◌&&◌, List, [], ◌++◌, length, take, replicate, ltb, leb, eqb, Result, Ok}
+use Rattle.std.specs.Prelude.{ℕ, ◌+◌, true, false, cond, ◌&&◌, List, [], ◌++◌, length, take, replicate, ltb, leb, eqb, Option, Some, None, Result, Ok}
 use Rattle.std.proofs.lemmas.List.Edits.{sets}
-use Rattle.wire_encoding.specs.Result.{require, ◌>>◌, mapped, or_else}
+use Rattle.wire_encoding.specs.Result.{require, ◌>>◌, mapped}
 use Rattle.wire_encoding.specs.BigEndian.{big_endian, bytes_of, part}
 use Rattle.address.specs.Host.{host_kind}
 use Rattle.address.specs.ScionAddress.{address_of}
@@ -13,14 +13,12 @@ use Rattle.errors.specs.declared.packet_error.DecodeError.{DecodeError}
 use Rattle.errors.specs.declared.packet_error.DecodeError.TheVariants.{PacketEmptyOrTruncated}
 use Rattle.errors.specs.declared.packet_error.EncodeError.{EncodeError}
 use Rattle.errors.specs.declared.packet_error.EncodeError.TheVariants.{NumberTooWide, InadequateBufferSize}
-use Rattle.errors.specs.Errors.{decoded_of}
 use Rattle.packet_common_header.specs.CommonHeader.{host_length}
 use Rattle.packet_address_header.specs.declared.MaybeEncoded.{MaybeEncoded}
 use Rattle.packet_address_header.specs.declared.MaybeEncoded.TheVariants.{Decoded, Encoded}
 use Rattle.packet_address_header.specs.declared.HostAddress.{HostAddress}
 use Rattle.packet_address_header.specs.declared.AddressHeader.{AddressHeader}
 use Rattle.packet_address_header.specs.declared.AddressHeaderRead.{AddressHeaderRead}
-use Rattle.packet_address_header.specs.declared.EndhostAddr.{EndhostAddr}
 use Rattle.packet_address_header.specs.declared.WireHost.{WireHost}
 use Rattle.packet_address_header.specs.declared.WireAddress.{WireAddress}
 
@@ -49,14 +47,17 @@ host_at kind bytes at =
     cond (eqb kind 4) (service_host (big_endian 2 bytes at) (big_endian 2 bytes (at + 2)))
     (record { host = host_of_kind kind; bytes = padded bytes at (host_length kind); padding = 0 })
 
--- a host that has a name, with its network; all zero where it has none
-unfoldable pub endhost_in : MaybeEncoded → List ℕ → IsdAsn → EndhostAddr
-endhost_in (Decoded host) bytes ia = record { known = true; address = address_of ia host bytes }
-endhost_in (Encoded kind) bytes ia =
-    record { known = false; address = address_of (record { 0 = 0 }) V4 (replicate 16 0) }
+-- a host that has a name, with its network
+unfoldable pub endhost_in : MaybeEncoded → List ℕ → IsdAsn → Option ScionAddr
+endhost_in (Decoded host) bytes ia = Some (address_of ia host bytes)
+endhost_in (Encoded kind) bytes ia = None
 
-abbrev pub endhost_of : HostAddress → IsdAsn → EndhostAddr
+abbrev pub endhost_of : HostAddress → IsdAsn → Option ScionAddr
 endhost_of a ia = endhost_in a.host a.bytes ia
+
+-- the host of an address; its padding is zero
+abbrev pub host_of : ScionAddr → HostAddress
+host_of address = record { host = Decoded address.host; bytes = address.bytes; padding = 0 }
 
 -- THE HEADER
 
@@ -66,8 +67,8 @@ address_header_of destination source =
     record {
       destination_ia = destination.isd_asn;
       source_ia = source.isd_asn;
-      destination = record { host = Decoded destination.host; bytes = destination.bytes; padding = 0 };
-      source = record { host = Decoded source.host; bytes = source.bytes; padding = 0 };
+      destination = host_of destination;
+      source = host_of source;
     }
 
 -- the same host with this padding
@@ -115,10 +116,9 @@ read_address bytes destination source = do
 unfoldable pub zero_address : AddressHeader
 zero_address = address_at [] 0 0
 
--- as it is handed back, beside its length; all zero where it is refused
-unfoldable pub address_answer : Result AddressHeader DecodeError → AddressHeaderRead
-address_answer r =
-    record { answer = decoded_of r; header = or_else r zero_address; length = or_else (mapped address_length r) 0 }
+-- as it is handed back, beside its length
+abbrev pub address_answer : Result AddressHeader DecodeError → Result AddressHeaderRead DecodeError
+address_answer r = mapped (λ a. record { header = a; length = address_length a }) r
 
 -- WRITING
 

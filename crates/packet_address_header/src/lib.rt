@@ -6,8 +6,7 @@ ghost use Rattle.std.specs.Prelude.{◌≡◌, ◌+◌, ◌/◌, ◌%◌, ◌≤
 ghost use Rattle.std.proofs.lemmas.List.Edits.{sets};
 ghost use Rattle.wire_encoding.specs.Answers.{put_answer};
 ghost use Rattle.wire_encoding.specs.BigEndian.{placed, written};
-ghost use Rattle.wire_encoding.specs.Result.{or_else};
-ghost use Rattle.errors.specs.Errors.{encoded_of};
+ghost use Rattle.wire_encoding.specs.Result.{done, or_else};
 ghost use Rattle.packet_common_header.specs.CommonHeader.{host_length};
 ghost use Rattle.packet_address_header.specs.AddressHeader as spec;
 
@@ -15,13 +14,13 @@ use address::host::HostAddr;
 use address::ia::IsdAsn;
 use address::scion_address::ScionAddr;
 use address::service::ServiceAddr;
-use errors::packet_error::{DecodeError, Decoded, EncodeError, Encoded};
+use errors::packet_error::{DecodeError, EncodeError};
 use packet_common_header::AddressInfo;
-use wire_encoding::read::{u16_or_zero, u32_or_zero, u64_or_zero};
-use wire_encoding::write::{Put, put_slice, put_u16, put_u32, put_u64};
+use wire_encoding::read::get_or_zero;
+use wire_encoding::write::{InadequateBufferSize, put};
 
 // A host of a kind that has a name, or another kind.
-#[derive(Clone, Copy)]
+#[derive(Clone, Copy, Debug, PartialEq, Eq, Hash)]
 pub enum MaybeEncoded {
     Decoded(HostAddr),
     Encoded(u8),
@@ -29,14 +28,14 @@ pub enum MaybeEncoded {
 
 // A host and the bytes beside it: they begin with the host's own, the others are zero. A service's number stands in `host`, and in
 // `padding` the two bytes that follow it on the wire; no other host has a padding, and there it is zero.
-#[derive(Clone, Copy)]
+#[derive(Clone, Copy, Debug, PartialEq, Eq, Hash)]
 pub struct HostAddress {
     pub host: MaybeEncoded,
     pub bytes: [u8; 16],
     pub padding: u16,
 }
 
-#[derive(Clone, Copy)]
+#[derive(Clone, Copy, Debug, PartialEq, Eq, Hash)]
 pub struct AddressHeader {
     pub destination_ia: IsdAsn,
     pub source_ia: IsdAsn,
@@ -44,30 +43,22 @@ pub struct AddressHeader {
     pub source: HostAddress,
 }
 
-// An address header that was read, and its length in bytes; all zero where it was refused.
-#[derive(Clone, Copy)]
+// An address header that was read, and its length in bytes.
+#[derive(Clone, Copy, Debug, PartialEq, Eq, Hash)]
 pub struct AddressHeaderRead {
-    pub answer: Decoded,
     pub header: AddressHeader,
     pub length: usize,
 }
 
-// The address of an end whose host has a name; all zero where it has none.
-#[derive(Clone, Copy)]
-pub struct EndhostAddr {
-    pub known: bool,
-    pub address: ScionAddr,
-}
-
 // A host as it is on the wire: its kind, and sixteen bytes that begin with its own.
-#[derive(Clone, Copy)]
+#[derive(Clone, Copy, Debug, PartialEq, Eq, Hash)]
 pub struct WireHost {
     pub kind: u8,
     pub bytes: [u8; 16],
 }
 
 // An address header as it is on the wire.
-#[derive(Clone, Copy)]
+#[derive(Clone, Copy, Debug, PartialEq, Eq, Hash)]
 pub struct WireAddress {
     pub destination_ia: u64,
     pub source_ia: u64,
@@ -82,10 +73,10 @@ fn raw_host_address(bytes: &[u8], at: usize, len: usize) -> [u8; 16]
 {
     let mut host = [0; 16];
     if len == 4 {
-        put_slice(&mut host, 0, &bytes[at..at + 4]);
+        host[..4].copy_from_slice(&bytes[at..at + 4]);
         return host;
     }
-    put_slice(&mut host, 0, &bytes[at..at + len]);
+    host[..len].copy_from_slice(&bytes[at..at + len]);
     host
 }
 
@@ -94,8 +85,8 @@ fn service_bytes(number: u16, padding: u16) -> [u8; 16]
     ensures { result ≡ spec.service_bytes number padding }
 {
     let mut raw = [0; 16];
-    put_u16(&mut raw, 0, number);
-    put_u16(&mut raw, 2, padding);
+    raw[0..2].copy_from_slice(&number.to_be_bytes());
+    raw[2..4].copy_from_slice(&padding.to_be_bytes());
     raw
 }
 
@@ -107,7 +98,7 @@ impl WireHost {
         AddressInfo(self.kind).address_length()
     }
 
-    // Writes the host at `at`, where there is room for it, in words of four bytes.
+    // Writes the host at `at`, where there is room for it, in words of four bytes: a copy of any length costs a call.
     fn put(self, dst: &mut [u8], at: usize)
         requires { at + host_length self.kind ≤ length dst.old }
         ensures { dst.new ≡ sets dst.old at (spec.wire_host_bytes self) }
@@ -116,11 +107,7 @@ impl WireHost {
         let bytes = self.bytes;
         let mut done: usize = 0;
         while done < len {
-            put_u32(
-                &mut dst[at + done..at + done + 4],
-                0,
-                u32_or_zero(&bytes, done),
-            );
+            dst[at + done..at + done + 4].copy_from_slice(&bytes[done..done + 4]);
             done += 4;
         }
     }
@@ -138,23 +125,22 @@ impl WireAddress {
 
     // Writes all of the header at `at`, or nothing for want of room. Each host goes before its network: after its loop the compiler
     // stores the network's eight bytes at once.
-    pub fn put(self, dst: &mut [u8], at: usize) -> Put
+    pub fn put(self, dst: &mut [u8], at: usize) -> Result<(), InadequateBufferSize>
         ensures value { result ≡ put_answer (written dst.old at (spec.wire_bytes self)) }
         ensures dst_after { dst.new ≡ placed dst.old at (spec.wire_bytes self) }
     {
         if dst.len() < at {
-            return Put::InadequateBufferSize;
+            return Err(InadequateBufferSize);
         }
         if dst.len() - at < self.encoded_length() {
-            return Put::InadequateBufferSize;
+            return Err(InadequateBufferSize);
         }
         let destination_at = at + AddressHeader::BASE_LENGTH;
         let source_at = destination_at + self.destination.encoded_length();
         self.destination.put(dst, destination_at);
-        put_u64(dst, at, self.destination_ia);
+        put(dst, at, self.destination_ia)?;
         self.source.put(dst, source_at);
-        put_u64(dst, at + 8, self.source_ia);
-        Put::Done
+        put(dst, at + 8, self.source_ia)
     }
 }
 
@@ -184,13 +170,26 @@ impl MaybeEncoded {
     }
 }
 
+// The host of an address; its padding is zero.
+impl From<ScionAddr> for HostAddress {
+    ghost from_gives = { λ address host. host ≡ spec.host_of address };
+
+    fn from(address: ScionAddr) -> HostAddress {
+        let bytes = address.bytes;
+        HostAddress {
+            host: MaybeEncoded::Decoded(address.host),
+            bytes,
+            padding: 0,
+        }
+    }
+}
+
 impl HostAddress {
     // The host kind on the wire.
     pub fn kind(self) -> u8
         ensures { result ≡ spec.kind_of self.host }
     {
-        let host = self.host;
-        host.kind()
+        self.host.kind()
     }
 
     // How many bytes the host has on the wire.
@@ -207,8 +206,8 @@ impl HostAddress {
     {
         let len = AddressInfo(kind).address_length();
         if kind == 4 {
-            let number = u16_or_zero(bytes, at);
-            let padding = u16_or_zero(bytes, at + 2);
+            let number = get_or_zero(bytes, at);
+            let padding = get_or_zero(bytes, at + 2);
             return HostAddress {
                 host: MaybeEncoded::Decoded(HostAddr::Svc(ServiceAddr(number))),
                 bytes: [0; 16],
@@ -244,21 +243,13 @@ impl HostAddress {
         }
     }
 
-    // A host that has a name, with its network.
-    fn in_network(self, isd_asn: IsdAsn) -> EndhostAddr
+    // The host with its network, where it has a name.
+    fn in_network(self, isd_asn: IsdAsn) -> Option<ScionAddr>
         ensures { result ≡ spec.endhost_of self isd_asn }
     {
-        let host = self.host;
-        let bytes = self.bytes;
-        match host {
-            MaybeEncoded::Decoded(named) => EndhostAddr {
-                known: true,
-                address: ScionAddr::new(isd_asn, named, bytes),
-            },
-            MaybeEncoded::Encoded(_) => EndhostAddr {
-                known: false,
-                address: ScionAddr::new(IsdAsn(0), HostAddr::V4, [0; 16]),
-            },
+        match self.host {
+            MaybeEncoded::Decoded(host) => Some(ScionAddr::new(isd_asn, host, self.bytes)),
+            MaybeEncoded::Encoded(_) => None,
         }
     }
 }
@@ -271,37 +262,23 @@ impl AddressHeader {
     pub fn new(destination: ScionAddr, source: ScionAddr) -> AddressHeader
         ensures { result ≡ spec.address_header_of destination source }
     {
-        let to = destination.host;
-        let from = source.host;
-        let to_bytes = destination.bytes;
-        let from_bytes = source.bytes;
-        let destination_ia = destination.isd_asn;
-        let source_ia = source.isd_asn;
         AddressHeader {
-            destination_ia,
-            source_ia,
-            destination: HostAddress {
-                host: MaybeEncoded::Decoded(to),
-                bytes: to_bytes,
-                padding: 0,
-            },
-            source: HostAddress {
-                host: MaybeEncoded::Decoded(from),
-                bytes: from_bytes,
-                padding: 0,
-            },
+            destination_ia: destination.isd_asn,
+            source_ia: source.isd_asn,
+            destination: HostAddress::from(destination),
+            source: HostAddress::from(source),
         }
     }
 
     // The destination, where its host has a name.
-    pub fn destination(self) -> EndhostAddr
+    pub fn destination(self) -> Option<ScionAddr>
         ensures { result ≡ spec.endhost_of self.destination self.destination_ia }
     {
         self.destination.in_network(self.destination_ia)
     }
 
     // The source, where its host has a name.
-    pub fn source(self) -> EndhostAddr
+    pub fn source(self) -> Option<ScionAddr>
         ensures { result ≡ spec.endhost_of self.source self.source_ia }
     {
         self.source.in_network(self.source_ia)
@@ -345,7 +322,10 @@ impl AddressHeader {
 
     // Reads the address header that begins `bytes`. `host_kinds` is the common header's byte of them, the destination's in its high
     // half, so no kind is above 15.
-    pub fn decode_with_context(bytes: &[u8], host_kinds: u8) -> AddressHeaderRead
+    pub fn decode_with_context(
+        bytes: &[u8],
+        host_kinds: u8,
+    ) -> Result<AddressHeaderRead, DecodeError>
         ensures { result ≡ spec.address_answer (spec.read_address bytes.now (host_kinds / 16) (host_kinds % 16)) }
     {
         let destination_kind = host_kinds / 16;
@@ -353,25 +333,19 @@ impl AddressHeader {
         let after = AddressHeader::BASE_LENGTH + AddressInfo(destination_kind).address_length();
         let end = after + AddressInfo(source_kind).address_length();
         if bytes.len() < end {
-            let header = AddressHeader::zero();
-            return AddressHeaderRead {
-                answer: Decoded::Refused(DecodeError::PacketEmptyOrTruncated),
-                header,
-                length: 0,
-            };
+            return Err(DecodeError::PacketEmptyOrTruncated);
         }
         let destination = HostAddress::read(bytes, AddressHeader::BASE_LENGTH, destination_kind);
         let source = HostAddress::read(bytes, after, source_kind);
-        AddressHeaderRead {
-            answer: Decoded::Accepted,
+        Ok(AddressHeaderRead {
             header: AddressHeader {
-                destination_ia: IsdAsn(u64_or_zero(bytes, 0)),
-                source_ia: IsdAsn(u64_or_zero(bytes, 8)),
+                destination_ia: IsdAsn(get_or_zero(bytes, 0)),
+                source_ia: IsdAsn(get_or_zero(bytes, 8)),
                 destination,
                 source,
             },
             length: end,
-        }
+        })
     }
 
     // The header as it is on the wire.
@@ -387,21 +361,21 @@ impl AddressHeader {
     }
 
     // Writes the header to `dst`, or leaves it as it is.
-    pub fn encode_to(self, dst: &mut [u8]) -> Encoded
-        ensures value { result ≡ encoded_of (spec.write_address self (length dst.old)) }
+    pub fn encode_to(self, dst: &mut [u8]) -> Result<(), EncodeError>
+        ensures value { result ≡ done (spec.write_address self (length dst.old)) }
         ensures dst_after { dst.new ≡ or_else (spec.write_address self (length dst.old)) dst.old }
     {
         let wire = self.on_wire();
         if 16 <= wire.destination.kind {
-            return Encoded::Refused(EncodeError::NumberTooWide);
+            return Err(EncodeError::NumberTooWide);
         }
         if 16 <= wire.source.kind {
-            return Encoded::Refused(EncodeError::NumberTooWide);
+            return Err(EncodeError::NumberTooWide);
         }
         if dst.len() != wire.encoded_length() {
-            return Encoded::Refused(EncodeError::InadequateBufferSize);
+            return Err(EncodeError::InadequateBufferSize);
         }
-        wire.put(dst, 0);
-        Encoded::Done
+        wire.put(dst, 0).unwrap();
+        Ok(())
     }
 }

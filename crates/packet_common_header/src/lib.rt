@@ -163,7 +163,7 @@ impl CommonHeader {
         if dst.len() != CommonHeader::LENGTH {
             return Err(EncodeError::InadequateBufferSize);
         }
-        let first = (u32::from(self.version) * 256 + u32::from(self.traffic_class)) * 0x10_0000
+        let first = (self.version as u32 * 256 + self.traffic_class as u32) * 0x10_0000
             + self.flow_id;
         let payload_length = self.payload_length;
         let reserved = self.reserved;

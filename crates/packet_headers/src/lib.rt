@@ -2,18 +2,16 @@
 #![tactic(auto)]
 
 ghost use Rattle.std.specs.Prelude.{◌≡◌, ◌+◌, eqb, length};
-ghost use Rattle.wire_encoding.specs.Result.{or_else};
-ghost use Rattle.errors.specs.Errors.{encoded_of};
+ghost use Rattle.wire_encoding.specs.Result.{done, or_else};
 ghost use Rattle.packet_headers.specs.Headers as spec;
 
-use errors::packet_error::{EncodeError, Encoded};
+use errors::packet_error::EncodeError;
 use packet_address_header::AddressHeader;
 use packet_common_header::{CommonHeader, fields_fit};
-use wire_encoding::write::put_slice;
 
 // The headers of a packet but for its path, which stands beside them. The host kinds are the hosts' own. Factor and payload
 // length may be any number: the encoder tests them.
-#[derive(Clone, Copy)]
+#[derive(Clone, Copy, Debug, PartialEq, Eq, Hash)]
 pub struct ScionHeaders {
     pub version: u8,
     pub traffic_class: u8,
@@ -88,9 +86,9 @@ impl ScionHeaders {
     }
 
     // Writes the headers and the path after them to a destination that they fill, or leaves it as it is.
-    #[tactic(auto, unfolding(crate::specs::Headers::write_headers, crate::specs::Headers::common_of, errors::specs::Errors::encoded_of, packet_common_header::specs::CommonHeader::common_fits, packet_address_header::specs::AddressHeader::on_wire, packet_address_header::specs::AddressHeader::host_on_wire))]
-    pub fn encode_to(self, path: &[u8], dst: &mut [u8]) -> Encoded
-        ensures value { result ≡ encoded_of (spec.write_headers self path.now (length dst.old)) }
+    #[tactic(auto, unfolding(crate::specs::Headers::write_headers, crate::specs::Headers::common_of, wire_encoding::specs::Result::done, packet_common_header::specs::CommonHeader::common_fits, packet_address_header::specs::AddressHeader::on_wire, packet_address_header::specs::AddressHeader::host_on_wire))]
+    pub fn encode_to(self, path: &[u8], dst: &mut [u8]) -> Result<(), EncodeError>
+        ensures value { result ≡ done (spec.write_headers self path.now (length dst.old)) }
         ensures dst_after { dst.new ≡ or_else (spec.write_headers self path.now (length dst.old)) dst.old }
     {
         let wire = self.address.on_wire();
@@ -100,21 +98,21 @@ impl ScionHeaders {
             wire.destination.kind,
             wire.source.kind,
         ) {
-            return Encoded::Refused(EncodeError::NumberTooWide);
+            return Err(EncodeError::NumberTooWide);
         }
         if self.header_length_factor == 0 {
-            return Encoded::Refused(EncodeError::InvalidHeaderLength);
+            return Err(EncodeError::InvalidHeaderLength);
         }
         if 255 < self.header_length_factor {
-            return Encoded::Refused(EncodeError::HeaderTooLarge);
+            return Err(EncodeError::HeaderTooLarge);
         }
         if 65535 < self.payload_length {
-            return Encoded::Refused(EncodeError::PayloadTooLarge);
+            return Err(EncodeError::PayloadTooLarge);
         }
         let fixed = CommonHeader::LENGTH + wire.encoded_length();
         let added = path_length(self.path_type, path.len());
         if !fills(fixed, added, dst.len()) {
-            return Encoded::Refused(EncodeError::InadequateBufferSize);
+            return Err(EncodeError::InadequateBufferSize);
         }
         let common = CommonHeader {
             version: self.version,
@@ -128,9 +126,9 @@ impl ScionHeaders {
             source_kind: wire.source.kind,
             reserved: self.reserved,
         };
-        wire.put(dst, CommonHeader::LENGTH);
-        common.encode_to(&mut dst[0..CommonHeader::LENGTH]);
-        put_slice(dst, fixed, &path[0..added]);
-        Encoded::Done
+        wire.put(dst, CommonHeader::LENGTH).unwrap();
+        common.encode_to(&mut dst[0..CommonHeader::LENGTH])?;
+        dst[fixed..].copy_from_slice(&path[0..added]);
+        Ok(())
     }
 }

@@ -251,19 +251,13 @@ impl PathMetaHeader {
         ensures { result ≡ spec.checked self }
     {
         if !self.lengths_valid() {
-            return Err(DecodeError::InvalidPath(
-                DataplanePathErrorKind::InvalidSegmentLengths,
-            ));
+            return Err(DecodeError::InvalidPath(DataplanePathErrorKind::InvalidSegmentLengths));
         }
         if !self.info_valid() {
-            return Err(DecodeError::InvalidPath(
-                DataplanePathErrorKind::InfoFieldOutOfRange,
-            ));
+            return Err(DecodeError::InvalidPath(DataplanePathErrorKind::InfoFieldOutOfRange));
         }
         if !self.hop_valid() {
-            return Err(DecodeError::InvalidPath(
-                DataplanePathErrorKind::HopFieldOutOfRange,
-            ));
+            return Err(DecodeError::InvalidPath(DataplanePathErrorKind::HopFieldOutOfRange));
         }
         Ok(self)
     }

@@ -60,5 +60,5 @@ returns c =
     let digits = common_digits header (typed header fit (search rules) (search rules) (search rules)) in
     let exact = c.if-dst-ne-LENGTH.false in
     let both = written_done (write_common header (length args.dst.now)) args.dst.now (common_written header (length args.dst.now) fit c.if-self-eq0.false exact)
-    (c.copy_from_slice.ensures.after ∙ digits) in
+    (rw digits at c.copy_from_slice.ensures.after) in
     record { value = both.0; dst_after = both.1 }
