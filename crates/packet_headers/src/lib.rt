@@ -127,7 +127,7 @@ impl ScionHeaders {
             reserved: self.reserved,
         };
         wire.put(dst, CommonHeader::LENGTH).unwrap();
-        common.encode_to(&mut dst[0..CommonHeader::LENGTH])?;
+        common.encode_to(&mut dst[0..CommonHeader::LENGTH]).unwrap();
         dst[fixed..].copy_from_slice(&path[0..added]);
         Ok(())
     }
