@@ -7,7 +7,7 @@ use native.Mathlib.Omega.{arith}
 use lib.Dec.{ltb}
 use lib.ListN.{length, get_or, set, length-append, length-set, get_or-append}
 use lib.Seq.{get_or-set_other}
-use Rattle.std.specs.Prelude.{Result, Ok}
+use Rattle.std.specs.Prelude.{Bool, Result, Ok, Err}
 use Rattle.wire_encoding.specs.Bits.{with_bit}
 use Rattle.wire_encoding.proofs.Result.{same_value, held, stepped}
 use Rattle.wire_encoding.proofs.BigEndian.{number_by_get_or}
@@ -16,9 +16,11 @@ use Rattle.path_meta_header.specs.declared.PathMetaHeader.{PathMetaHeader}
 use Rattle.errors.specs.declared.path_error.PathError.{PathError}
 use Rattle.path_least_expiry.specs.Expiry.{path_expiry}
 use Rattle.path_least_expiry.proofs.Kept.{none_below, expiry_within, expiry_flags}
-use Rattle.path.specs.Standard.{read_record}
-use Rattle.path.specs.Dataplane.{path_of, standard, alerted, Fits, RecordFits, RecordExpires, KeepsExpiry, AlertFlagsKeepExpiry}
-use Rattle.path.proofs.Reading.{Readable, record_read, path_of_lem, standard_type, standard_readable}
+use Rattle.path.specs.Standard.{read_record, beside}
+use Rattle.path.specs.declared.standard.Found.{Found}
+use Rattle.path.specs.declared.standard.Part.{Part}
+use Rattle.path.specs.Dataplane.{path_of, standard, hop_field_in, alerted, written_answer, Fits, RecordFits, RecordExpires, KeepsExpiry, AlertFlagsKeepExpiry}
+use Rattle.path.proofs.Reading.{beside_ok, beside_refused, HopFound, hop_found, hop_view, alerted_refused, Readable, record_read, path_of_lem, standard_type, standard_readable}
 
 -- A PATH THAT WAS READ: its record fits
 
@@ -114,6 +116,38 @@ pub path-alerted : (type : ℕ) (bytes : List ℕ) (m : PathMetaHeader) (j v : �
     → hop_field_offset m j ≡ Ok start → path_of type (set bytes start v) ≡ path_of type bytes
 path-alerted type bytes m j v read offset =
     rw (standard_type bytes type read, ← hop_start_lem m j offset) (path_flags bytes m (standard_readable bytes type read) j v)
+
+-- what a call that sets or clears the flag finds, and does
+pub flag_inside : (type : ℕ) (bytes : List ℕ) (j : ℕ) {found : Found Part} → beside (path_of type bytes) (hop_field_in type bytes j) ≡ Ok found
+    → found.value.start < length bytes
+flag_inside type bytes j {found} h =
+    let view = hop_view bytes type j found.value (beside_ok (path_of type bytes) (hop_field_in type bytes j) h).0 in
+    omega (arith, view.inside, view.sized)
+
+module _ (bit : ℕ) (on : Bool) (type : ℕ) (bytes : List ℕ) (j : ℕ) where
+  abbrev flagged : Found Part → List ℕ
+  flagged found = set bytes found.value.start (with_bit bit on (get_or bytes found.value.start 0))
+
+  module _ {found : Found Part} (h : beside (path_of type bytes) (hop_field_in type bytes j) ≡ Ok found) where
+    abbrev there : HopFound bytes type j found.value
+    there = hop_found bytes type j (beside_ok (path_of type bytes) (hop_field_in type bytes j) h).0
+
+    pub flag_written : alerted bit on type bytes j ≡ Ok (flagged found)
+    unfolding alerted
+    flag_written = rw (there.read, there.offset)
+
+    pub flag_record : written_answer type (alerted bit on type bytes j) ≡ Ok found.path
+    unfolding written_answer
+    flag_record =
+        rw flag_written
+        (ap Ok (path-alerted type bytes there.header j _ there.read there.offset
+        ∙ (beside_ok (path_of type bytes) (hop_field_in type bytes j) h).1))
+
+  pub flag_refused : {error : PathError} → beside (path_of type bytes) (hop_field_in type bytes j) ≡ Err error → alerted bit on type bytes j ≡ Err error
+  flag_refused h = alerted_refused bytes type bit on j (beside_refused (path_of type bytes) (hop_field_in type bytes j) h)
+
+-- what `set_alert` cites
+pub ruleset flags = (flag_inside, flag_written, flag_record, flag_refused)
 
 pub alert_flags_keep_expiry : AlertFlagsKeepExpiry
 unfolding alerted

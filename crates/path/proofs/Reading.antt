@@ -6,33 +6,29 @@ use mathlib.Core.Bool.{Bool, true, false, cond}
 use mathlib.Core.List.{List}
 use native.Mathlib.Omega.{arith}
 use lib.Dec.{leb, ltb, eqb}
-use lib.ListN.{length}
+use lib.ListN.{length, take}
+use lib.Seq.{length-take-le}
 use borrow.Author.Tests.{leb-true, ltb-true, eqb-true, ne_eqb, le-leb}
 use Rattle.std.specs.Prelude.{Result, Ok, Err}
-use Rattle.wire_encoding.specs.Result.{or_else, refusing}
+use Rattle.wire_encoding.specs.Result.{mapped, or_else, refusing}
 use Rattle.wire_encoding.specs.BigEndian.{big_endian, room}
-use Rattle.wire_encoding.proofs.Result.{same_value, held, stepped, refusing_ok, either, refused_alike}
+use Rattle.wire_encoding.proofs.Result.{same_value, held, stepped, refusing_ok, mapped_ok, mapped_refused, refused_alike}
 use Rattle.path_meta_header.specs.MetaHeader.{meta_of, info_fields_count, hop_fields_count, path_length, read_meta, info_field_offset, hop_field_offset}
 use Rattle.path_meta_header.specs.declared.PathMetaHeader.{PathMetaHeader}
 use Rattle.path_meta_header.proofs.MetaHeader.{Sound, checked_sound, sound_checked}
 use Rattle.path_least_expiry.specs.Expiry.{path_expiry, path_expiry_or_zero}
 use Rattle.path_least_expiry.proofs.There.{path_found}
-use Rattle.errors.specs.declared.packet_error.Decoded.TheVariants as decoded
 use Rattle.errors.specs.declared.packet_error.DecodeError.{DecodeError}
-use Rattle.errors.specs.declared.path_error.Answer.TheVariants as answer
 use Rattle.errors.specs.declared.path_error.PathError.{PathError}
 use Rattle.errors.specs.declared.path_error.PathError.TheVariants.{Decode}
-use Rattle.errors.proofs.Errors as told
 use Rattle.path.specs.declared.standard.Part.{Part}
-use Rattle.path.specs.declared.standard.PathRead.{PathRead}
-use Rattle.path.specs.declared.dataplane.PathAnswer.{PathAnswer}
-use Rattle.path.specs.declared.dataplane.DataplaneRead.{DataplaneRead}
-use Rattle.path.specs.declared.dataplane.Located.{Located}
 use Rattle.path.specs.declared.standard.StandardPath.{StandardPath}
-use Rattle.path.specs.Standard.{read_path, path_under, no_path, read_record, path_read, beside}
-use Rattle.path.specs.Segment.{Fields, nowhere}
-use Rattle.path.specs.Dataplane.{Extent, unread, read_standard, read_dataplane, dataplane_read, path_of, NoRecord, standard, meta_header_of}
-use Rattle.path.specs.Dataplane.{path_answer, info_field_in, hop_field_in, segment_in, located, alerted, Among, ViewsInside}
+use Rattle.path.specs.declared.standard.Found.{Found}
+use Rattle.path.specs.declared.standard.segment.Segment.{Segment}
+use Rattle.path.specs.declared.dataplane.Extent.{Extent}
+use Rattle.path.specs.Standard.{read_path, path_under, no_path, read_record, beside}
+use Rattle.path.specs.Dataplane.{unread, read_standard, read_dataplane, path_of, NoRecord, standard, meta_header_of}
+use Rattle.path.specs.Dataplane.{path_answer, info_field_in, hop_field_in, segment_in, alerted, Among, ViewsInside}
 use Rattle.path_meta_header.proofs.Segment as segments
 
 -- A RECORD THAT WAS READ
@@ -47,74 +43,35 @@ by_record bytes h =
 
 -- WHAT AN ANSWER SAYS
 
--- a caller of `StandardPath::decode`
-module _ (bytes : List ℕ) {read : PathRead} (is : read ≡ path_read (read_record bytes)) where
-  pub record_ok : read.answer ≡ decoded.Accepted → read_record bytes ≡ Ok read.path
-  unfolding path_read
-  record_ok h = told.decoded_ok (read_record bytes) no_path (ap (λ (x : PathRead). x.answer) is) (ap (λ (x : PathRead). x.path) is) h
-
-  pub path_refused : {error : DecodeError} → read.answer ≡ decoded.Refused error → read_record bytes ≡ Err error
-  unfolding path_read
-  path_refused h = told.decoded_refused (read_record bytes) (ap (λ (x : PathRead). x.answer) is) h
-
--- of `DataplanePath::decode`
-module _ (r : Result Extent DecodeError) {read : DataplaneRead} (is : read ≡ dataplane_read r) where
-  pub read_ok : read.answer ≡ decoded.Accepted → r ≡ Ok (record { path = read.path; length = read.length })
-  unfolding dataplane_read
-  read_ok h =
-      told.decoded_ok r (unread 0) (ap (λ (x : DataplaneRead). x.answer) is)
-      (ap (λ (x : DataplaneRead). record { path = x.path; length = x.length }) is) h
-
-  pub read_refused : {error : DecodeError} → read.answer ≡ decoded.Refused error → r ≡ Err error
-  unfolding dataplane_read
-  read_refused h = told.decoded_refused r (ap (λ (x : DataplaneRead). x.answer) is) h
-
-pub path-given : (type : ℕ) (bytes : List ℕ) {read : DataplaneRead} → read ≡ dataplane_read (read_dataplane type bytes) → read.path ≡ path_of type bytes
+-- of a reading: the record is the one that it hands back
+pub path_given : (type : ℕ) (bytes : List ℕ) {read : Extent} → read_dataplane type bytes ≡ Ok read → path_of type bytes ≡ read.path
 unfolding path_of
-path-given type bytes is = ap (λ (x : DataplaneRead). x.path) is
+path_given type bytes h = rw h
 
 -- no record but of a standard path that is read
 no_path_lem : (type : ℕ) (bytes : List ℕ) → (type ≡ 1 → ⊥) → path_of type bytes ≡ no_path
-unfolding path_of dataplane_read read_dataplane
-no_path_lem type bytes other = rw (ne_eqb type 1 other, path_of) (go (eqb type 0))
+unfolding path_of read_dataplane
+no_path_lem type bytes other = rw (ne_eqb type 1 other) (go (eqb type 0))
   where
-    go : (z : Bool) → (dataplane_read (cond z (Ok (unread 0)) (Ok (unread (length bytes))))).path ≡ no_path
+    other_read : Bool → Result Extent DecodeError
+    other_read z = cond z (Ok (unread 0)) (Ok (unread (length bytes)))
+
+    go : (z : Bool) → or_else (mapped (λ (read : Extent). read.path) (other_read z)) no_path ≡ no_path
     go true = refl
     go false = refl
 
 pub no_record : NoRecord
-unfolding path_of dataplane_read
-no_record type bytes = (λ error h. rw (h, path_of), no_path_lem type bytes)
+unfolding path_of
+no_record type bytes = (λ error h. rw h, no_path_lem type bytes)
 
--- of a call that leaves the bytes as they are
-module _ {A : Type 0} (path : StandardPath) (r : Result A PathError) {call : PathAnswer} (is : call ≡ path_answer path r) where
-  pub answer_refused : {error : PathError} → call.answer ≡ answer.Refused error → r ≡ Err error
-  unfolding path_answer
-  answer_refused h = told.answer_refused r (ap (λ (x : PathAnswer). x.answer) is) h
+-- of what is found of a path
+module _ {A : Type 0} (path : StandardPath) (r : Result A PathError) where
+  pub beside_ok : {found : Found A} → beside path r ≡ Ok found → (r ≡ Ok found.value) × (path ≡ found.path)
+  beside_ok h = let read = mapped_ok (λ value. record { path = path; value = value }) r h in
+      (read.first ∙ ap (λ (f : Found A). Ok f.value) (same_value read.then), ap (λ (f : Found A). f.path) (same_value read.then))
 
-  -- where it is carried out there is a value, and the record is the path's
-  pub answer_value_lem : (zero : A) → call.answer ≡ answer.Accepted → r ≡ Ok (or_else r zero)
-  unfolding path_answer
-  answer_value_lem zero h = told.answer_ok r zero (ap (λ (x : PathAnswer). x.answer) is) refl h
-
-  pub answer_path : (zero : A) → call.answer ≡ answer.Accepted → call.path ≡ path
-  unfolding path_answer
-  answer_path zero h = ap (λ (x : PathAnswer). x.path) is ∙ ap (λ (x : Result A PathError). beside path x) (answer_value_lem zero h)
-
--- of a view
-module _ (path : StandardPath) (r : Result Part PathError) {call : Located} (is : call ≡ located path r) where
-  pub located_ok : call.answer ≡ answer.Accepted → r ≡ Ok call.part
-  unfolding located
-  located_ok h = told.answer_ok r nowhere (ap (λ (x : Located). x.answer) is) (ap (λ (x : Located). x.part) is) h
-
-  pub located_refused : {error : PathError} → call.answer ≡ answer.Refused error → r ≡ Err error
-  unfolding located
-  located_refused h = told.answer_refused r (ap (λ (x : Located). x.answer) is) h
-
-  -- and the record beside it is the path's
-  pub located-path : call.answer ≡ answer.Accepted → call.path ≡ path
-  unfolding located
-  located-path h = ap (λ (x : Located). x.path) is ∙ rw (located_ok h)
+  pub beside_refused : {error : PathError} → beside path r ≡ Err error → r ≡ Err error
+  beside_refused h = mapped_refused (λ value. record { path = path; value = value }) r h
 
 -- A PATH THAT WAS READ
 
@@ -156,6 +113,14 @@ module _ (bytes : List ℕ) {m : PathMetaHeader} where
 pub expiry_found_lem : (bytes : List ℕ) (m : PathMetaHeader) → Readable bytes m → path_expiry_or_zero bytes m ≡ path_expiry bytes m
 expiry_found_lem bytes m r = path_found bytes m (omega (arith, r.sound_meta.info)) r.whole
 
+-- what `StandardPath::decode` finds
+pub record_found : (bytes : List ℕ) {m : PathMetaHeader} → read_meta bytes ≡ Ok m → path_length m ≤ length bytes
+    → read_record bytes ≡ Ok (record { meta_header = m; expiry = path_expiry_or_zero bytes m })
+unfolding read_record read_path
+record_found bytes {m} h whole =
+    let read : read_path bytes ≡ Ok m = rw (h, le-leb _ _ whole) in
+    rw (read, expiry_found_lem bytes m (readable bytes read))
+
 -- one that is read by its record is readable too
 pub record_readable : (bytes : List ℕ) {path : StandardPath} → read_record bytes ≡ Ok path → Readable bytes path.meta_header
 record_readable bytes h = readable bytes (by_record bytes h).0
@@ -180,8 +145,8 @@ module _ (bytes : List ℕ) (m : PathMetaHeader) (r : Readable bytes m) where
 
   -- and its record is the one that reading hands back
   pub path_of_lem : path_of 1 bytes ≡ path_under bytes m
-  unfolding path_of dataplane_read read_dataplane
-  path_of_lem = rw (record_read, path_of)
+  unfolding path_of read_dataplane
+  path_of_lem = rw record_read
 
   -- and its header is the one that reading hands back
   pub header_read : meta_header_of bytes ≡ m
@@ -193,35 +158,39 @@ module _ (type : ℕ) (bytes : List ℕ) where
   pub standard-path : {m : PathMetaHeader} → standard type bytes ≡ Ok m → path_of type bytes ≡ path_under bytes m
   standard-path {m} h = rw (standard_type bytes type h) (path_of_lem bytes m (standard_readable bytes type h))
 
-  -- its record is that of the path
-  pub record_is : {call : PathAnswer} → call ≡ path_answer (path_of type bytes) (standard type bytes) → call.answer ≡ answer.Accepted
-      → call.path ≡ path_of type bytes
-  record_is is h = answer_path (path_of type bytes) (standard type bytes) is (meta_of 0) h
+  -- the record is that of the path, and holds the header that was read
+  pub answer_ok : {path : StandardPath} → path_answer (path_of type bytes) (standard type bytes) ≡ Ok path
+      → (standard type bytes ≡ Ok path.meta_header) × (path_of type bytes ≡ path)
+  unfolding path_answer
+  answer_ok h =
+      let read = mapped_ok (λ _. path_of type bytes) (standard type bytes) h in
+      let same = same_value read.then in
+      (read.first ∙ ap Ok (ap (λ (p : StandardPath). p.meta_header) (sym (standard-path read.first) ∙ same)), same)
 
-  -- and holds the header that was read
-  pub answer_ok : {call : PathAnswer} → call ≡ path_answer (path_of type bytes) (standard type bytes) → call.answer ≡ answer.Accepted
-      → standard type bytes ≡ Ok call.path.meta_header
-  answer_ok is h =
-      let some = answer_value_lem (path_of type bytes) (standard type bytes) is (meta_of 0) h in
-      some ∙ ap Ok (ap (λ (p : StandardPath). p.meta_header) (sym (standard-path some) ∙ sym (record_is is h)))
+  pub answer_refused : {error : PathError} → path_answer (path_of type bytes) (standard type bytes) ≡ Err error
+      → standard type bytes ≡ Err error
+  unfolding path_answer
+  answer_refused h = mapped_refused (λ _. path_of type bytes) (standard type bytes) h
 
 -- WHERE THE PARTS LIE
 
 module _ (bytes : List ℕ) where
   -- a path is at most all the bytes
-  pub length_inside : (type : ℕ) → (dataplane_read (read_dataplane type bytes)).length ≤ length bytes
-  unfolding read_dataplane dataplane_read
-  length_inside type = go (eqb type 0) (eqb type 1)
+  pub length_inside : (type : ℕ) {read : Extent} → read_dataplane type bytes ≡ Ok read → read.length ≤ length bytes
+  unfolding read_dataplane
+  length_inside type {read} = go (eqb type 0) (eqb type 1)
     where
-      go : (z o : Bool)
-          → (dataplane_read (cond z (Ok (unread 0)) (cond o (read_standard bytes) (Ok (unread (length bytes)))))).length ≤ length bytes
-      go true o = omega arith
-      go false true =
-          either (λ (x : Extent). x.length ≤ length bytes) (read_standard bytes) (unread 0) (omega arith)
-          (λ x h. let path = stepped (read_record bytes) _ h in
-          let read = record_readable bytes path.first in
-          omega (arith, read.whole, ap (λ (r : Extent). r.length) (same_value path.then)))
-      go false false = omega arith
+      go : (z o : Bool) → cond z (Ok (unread 0)) (cond o (read_standard bytes) (Ok (unread (length bytes)))) ≡ Ok read → read.length ≤ length bytes
+      go true o h = omega (arith, ap (λ (r : Extent). r.length) (same_value h))
+      go false true h =
+          let path = stepped (read_record bytes) _ h in
+          let whole = (record_readable bytes path.first).whole in
+          omega (arith, whole, ap (λ (r : Extent). r.length) (same_value path.then))
+      go false false h = omega (arith, ap (λ (r : Extent). r.length) (same_value h))
+
+  -- so as many bytes stand at its front
+  pub length_front : (type : ℕ) {read : Extent} → read_dataplane type bytes ≡ Ok read → length (take read.length bytes) ≡ read.length
+  length_front type {read} h = length-take-le read.length bytes (length_inside type h)
 
 -- a view lies among n bytes, and is of its size
 pub record Inside (size n : ℕ) (v : Part) : Type 0 where
@@ -281,7 +250,7 @@ module _ (bytes : List ℕ) (type : ℕ) where
   alerted_refused bit on j h =
       refused_alike (λ m. hop_field_offset m j) (λ m start. record { start = start; len = 12 }) _ (standard type bytes) h
 
-  segment_view : (k : ℕ) (v : Fields) → segment_in type bytes k ≡ Ok v → Among bytes v.info × Among bytes v.hops
+  segment_view : (k : ℕ) (v : Segment) → segment_in type bytes k ≡ Ok v → Among bytes v.info_field × Among bytes v.hop_fields
   unfolding segment_in
   segment_view k v h =
       let read = stepped (standard type bytes) _ h in
@@ -295,4 +264,4 @@ views_inside type bytes i =
     ((λ p h. (info_view bytes type i p h).inside), (λ p h. (hop_view bytes type i p h).inside), (λ s h. segment_view bytes type i s h))
 
 -- what an answer of `standard` says of the bytes
-pub ruleset answers_read = (answer_ok, answer_refused, record_is, standard_readable)
+pub ruleset answers_read = (answer_ok, answer_refused, standard_readable)

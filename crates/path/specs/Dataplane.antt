@@ -6,26 +6,18 @@ use Rattle.wire_encoding.specs.Bits.{with_bit}
 use Rattle.path_meta_header.specs.MetaHeader.{meta_of, info_fields_count, path_length, info_field_offset, hop_field_offset}
 use Rattle.path_meta_header.specs.declared.PathMetaHeader.{PathMetaHeader}
 use Rattle.path_fields.specs.Fields.{info_field_length, hop_field_length}
-use Rattle.errors.specs.Errors.{decoded_of, answer_of}
 use Rattle.errors.specs.declared.packet_error.DecodeError.{DecodeError}
 use Rattle.errors.specs.declared.path_error.PathError.{PathError}
 use Rattle.errors.specs.declared.path_error.PathError.TheVariants.{Decode, NoSuchField}
 use Rattle.path_least_expiry.specs.Expiry.{path_expiry, least_expiry}
-use Rattle.path.specs.Standard.{no_path, read_record, beside}
-use Rattle.path.specs.Segment.{Fields, segment_at, nowhere}
+use Rattle.path.specs.Standard.{no_path, read_record}
+use Rattle.path.specs.Segment.{segment_at}
 use Rattle.path.specs.declared.standard.StandardPath.{StandardPath}
 use Rattle.path.specs.declared.standard.Part.{Part}
 use Rattle.path.specs.declared.standard.segment.Segment.{Segment}
-use Rattle.path.specs.declared.dataplane.DataplaneRead.{DataplaneRead}
-use Rattle.path.specs.declared.dataplane.PathAnswer.{PathAnswer}
-use Rattle.path.specs.declared.dataplane.Located.{Located}
+use Rattle.path.specs.declared.dataplane.Extent.{Extent}
 
 -- READING
-
--- a path that was read: its record, zeros unless its type is 1, and how many of the bytes are the path's
-pub record Extent : Type 0 where
-  pub path : StandardPath
-  pub length : ℕ
 
 -- a path that is not looked into: its length alone
 abbrev pub unread : ℕ → Extent
@@ -41,14 +33,9 @@ read_standard bytes = do
 unfoldable pub read_dataplane : ℕ → List ℕ → Result Extent DecodeError
 read_dataplane type bytes = cond (eqb type 0) (Ok (unread 0)) (cond (eqb type 1) (read_standard bytes) (Ok (unread (length bytes))))
 
-unfoldable pub dataplane_read : Result Extent DecodeError → DataplaneRead
-dataplane_read r =
-    let found = or_else r (unread 0) in
-    record { answer = decoded_of r; path = found.path; length = found.length }
-
--- the record that reading hands back
+-- the record that reading hands back; zeros where the path is refused
 unfoldable pub path_of : ℕ → List ℕ → StandardPath
-path_of type bytes = (dataplane_read (read_dataplane type bytes)).path
+path_of type bytes = or_else (mapped (λ (read : Extent). read.path) (read_dataplane type bytes)) no_path
 
 -- a theorem: zeros where the path is refused, and zeros for every type but 1
 abbrev pub NoRecord : Type 0
@@ -69,9 +56,9 @@ standard type bytes = do
 unfoldable pub meta_header_of : List ℕ → PathMetaHeader
 meta_header_of bytes = or_else (standard 1 bytes) (meta_of 0)
 
--- a call that leaves the bytes as they are: its answer, and the record of the path
-unfoldable pub path_answer : {A : Type 0} → StandardPath → Result A PathError → PathAnswer
-path_answer path r = record { answer = answer_of r; path = beside path r }
+-- a call that leaves the bytes as they are: the record of the path
+unfoldable pub path_answer : {A : Type 0} → StandardPath → Result A PathError → Result StandardPath PathError
+path_answer path r = mapped (λ _. path) r
 
 -- "a record fitting the bytes it leaves": reading these bytes is accepted with that record, and its expiry is the rule's on them
 pub record Fits (left : List ℕ) (path : StandardPath) : Type 0 where
@@ -94,8 +81,9 @@ contents r lent = or_else r lent
 abbrev pub path_left : ℕ → Result (List ℕ) PathError → StandardPath
 path_left type r = or_else (mapped (path_of type) r) no_path
 
-unfoldable pub written_answer : ℕ → Result (List ℕ) PathError → PathAnswer
-written_answer type r = record { answer = answer_of r; path = path_left type r }
+-- as it is handed back: the record, or the refusal
+unfoldable pub written_answer : ℕ → Result (List ℕ) PathError → Result StandardPath PathError
+written_answer type r = mapped (path_of type) r
 
 -- what is promised of each call that writes, where a standard path is changed or written: the record fits, and the expiry is still that
 -- of the path that was read
@@ -116,20 +104,11 @@ hop_field_in type bytes j = do
   start ← hop_field_offset m j
   Ok (record { start = start; len = hop_field_length })
 
-unfoldable pub segment_in : ℕ → List ℕ → ℕ → Result Fields PathError
+unfoldable pub segment_in : ℕ → List ℕ → ℕ → Result Segment PathError
 segment_in type bytes k = do
   m ← standard type bytes
   require (ltb k (info_fields_count m)) NoSuchField
   Ok (segment_at m k)
-
--- what is handed back of one, beside the record of the path
-unfoldable pub located : StandardPath → Result Part PathError → Located
-located path r = record { answer = answer_of r; path = beside path r; part = or_else r nowhere }
-
-unfoldable pub segment : StandardPath → Result Fields PathError → Segment
-segment path r =
-    let found = or_else r (record { info = nowhere; hops = nowhere }) in
-    record { answer = answer_of r; path = beside path r; info_field = found.info; hop_fields = found.hops }
 
 -- the bytes of a part
 abbrev pub part_in : List ℕ → Part → List ℕ
@@ -144,7 +123,7 @@ ViewsInside =
     (type : ℕ) (bytes : List ℕ) (i : ℕ)
     → ((p : Part) → info_field_in type bytes i ≡ Ok p → Among bytes p)
     × ((p : Part) → hop_field_in type bytes i ≡ Ok p → Among bytes p)
-    × ((s : Fields) → segment_in type bytes i ≡ Ok s → Among bytes s.info × Among bytes s.hops)
+    × ((s : Segment) → segment_in type bytes i ≡ Ok s → Among bytes s.info_field × Among bytes s.hop_fields)
 
 -- ALERT FLAGS of hop field j: bit 1 ingress, bit 0 egress. The one bit changes; 8 where there is no such hop field
 

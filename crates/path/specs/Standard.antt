@@ -1,18 +1,17 @@
 -- The draft's SCION Path Type: a Path Meta Header, its Info Fields, its Hop Fields; and what reading one finds.
 use Rattle.std.specs.Prelude.{Bool, ◌&&◌, List, ℕ, length, leb, eqb, Result, Ok}
-use Rattle.wire_encoding.specs.Result.{require, ◌>>◌, ◌>>=◌, mapped, or_else}
+use Rattle.wire_encoding.specs.Result.{require, ◌>>◌, ◌>>=◌, mapped}
 use Rattle.path_meta_header.specs.MetaHeader.{meta_of, info_fields_count, info_start, hop_start, path_length, read_meta}
 use Rattle.path_meta_header.specs.declared.PathMetaHeader.{PathMetaHeader}
 use Rattle.path_fields.specs.Fields.{info_field_at, hop_field_at, peering}
 use Rattle.path_fields.specs.declared.InfoField.{InfoField}
 use Rattle.path_fields.specs.declared.HopField.{HopField}
-use Rattle.errors.specs.Errors.{decoded_of}
 use Rattle.errors.specs.declared.packet_error.DecodeError.{DecodeError}
 use Rattle.errors.specs.declared.packet_error.DecodeError.TheVariants.{PacketEmptyOrTruncated}
 use Rattle.errors.specs.declared.path_error.PathError.{PathError}
 use Rattle.path_least_expiry.specs.Expiry.{path_expiry}
 use Rattle.path.specs.declared.standard.StandardPath.{StandardPath}
-use Rattle.path.specs.declared.standard.PathRead.{PathRead}
+use Rattle.path.specs.declared.standard.Found.{Found}
 
 -- reading the path that begins bytes: its meta header, then 8 · I + 12 · N bytes more; the bytes after it are no part of it
 unfoldable pub read_path : List ℕ → Result PathMetaHeader DecodeError
@@ -50,10 +49,6 @@ read_record bytes = do
   m ← read_path bytes
   Ok (path_under bytes m)
 
--- what a reader hands back
-unfoldable pub path_read : Result StandardPath DecodeError → PathRead
-path_read r = record { answer = decoded_of r; path = or_else r no_path }
-
--- the record beside what is found of the path: zeros where that is refused
-abbrev pub beside : {A : Type 0} → StandardPath → Result A PathError → StandardPath
-beside path r = or_else (mapped (λ _. path) r) no_path
+-- what is found of a path, beside its record
+abbrev pub beside : {A : Type 0} → StandardPath → Result A PathError → Result (Found A) PathError
+beside path r = mapped (λ value. record { path = path; value = value }) r

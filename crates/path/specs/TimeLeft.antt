@@ -2,13 +2,10 @@
 use Rattle.std.specs.Prelude.{ℕ, ℤ, pos, leb, Result, Ok}
 use Rattle.std.proofs.Math.IntN.{sub_ℕ}
 use Rattle.wire_encoding.specs.Result.{require, ◌>>◌, or_else}
-use Rattle.errors.specs.Errors.{answer_of}
 use Rattle.errors.specs.declared.path_error.PathError.{PathError}
 use Rattle.errors.specs.declared.path_error.PathError.TheVariants.{NumberTooWide}
 use Rattle.path_least_expiry.specs.Expiry.{largest_expiry}
-use Rattle.path.specs.Standard.{beside}
 use Rattle.path.specs.declared.standard.StandardPath.{StandardPath}
-use Rattle.path.specs.declared.standard.time_left.TimeLeft.{TimeLeft}
 
 -- the largest time that is looked at
 abbrev pub largest_time : ℕ
@@ -20,7 +17,3 @@ time_left_of path now = do
   require (leb path.expiry largest_expiry) NumberTooWide
   require (leb now largest_time) NumberTooWide
   Ok (sub_ℕ path.expiry now)
-
--- what is handed back, beside the record: all zero where it is refused
-unfoldable pub time_left_found : StandardPath → Result ℤ PathError → TimeLeft
-time_left_found path r = record { answer = answer_of r; path = beside path r; ms = or_else r (pos 0) }

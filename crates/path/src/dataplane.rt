@@ -1,148 +1,40 @@
 // Paths as a packet carries them: a type byte beside the bytes. Each call reads the bytes first.
-ghost use Rattle.std.specs.Prelude.{◌≡◌, cond, ◌≤◌, length, take};
-ghost use Rattle.wire_encoding.specs.Result.{ok, refused, and_then};
-ghost use Rattle.wire_encoding.specs.Bits.{with_bit};
-ghost use Rattle.path_meta_header.specs.MetaHeader.{offset_found};
-ghost use Rattle.errors.specs.declared.path_error.Answer.TheVariants as answers;
-ghost use Rattle.errors.specs.declared.path_error.PathError.TheVariants as errors;
+ghost use Rattle.std.specs.Prelude.{◌≡◌, ◌≤◌, ◌<◌, take, IfOk};
+ghost use Rattle.wire_encoding.specs.Result.{or_else, mapped};
 ghost use Rattle.path_least_expiry.specs.Expiry.{largest_expiry};
-ghost use Rattle.path.specs.Standard.{no_path};
+ghost use Rattle.path.specs.Standard.{beside};
+ghost use Rattle.path.specs.Segment.{nowhere, no_segment};
 ghost use Rattle.path.specs.Dataplane as spec;
 
 use crate::standard::segment::Segment;
-use crate::standard::{Part, StandardPath};
-use errors::packet_error::{DecodeError, Decoded};
-use errors::path_error::{Answer, PathError};
+use crate::standard::{Found, Part, StandardPath};
+use errors::packet_error::DecodeError;
+use errors::path_error::PathError;
 use path_fields::{HopField, InfoField};
-use path_meta_header::{Offset, PathMetaHeader};
-use wire_encoding::flags::{with_bit_0, with_bit_1};
+use path_meta_header::PathMetaHeader;
+use wire_encoding::flags::with_bit;
 use wire_encoding::read::part_of;
 
-// A path that was read by its type: its record, zero unless the type is 1, and how many of the bytes are the path's.
-#[derive(Clone, Copy)]
-pub struct DataplaneRead {
-    pub answer: Decoded,
+// A path, and how many bytes it has. The record is all zero unless the path is a standard one.
+#[derive(Clone, Copy, Debug, PartialEq, Eq, Hash)]
+pub struct Extent {
     pub path: StandardPath,
     pub length: usize,
 }
 
-// Whether a call was carried out, and the record of the path as the call leaves it.
-#[derive(Clone, Copy)]
-pub struct PathAnswer {
-    pub answer: Answer,
-    pub path: StandardPath,
-}
-
-// Where a field lies in the path's bytes; all zero where it was refused.
-#[derive(Clone, Copy)]
-pub struct Located {
-    pub answer: Answer,
-    pub path: StandardPath,
-    pub part: Part,
-}
-
 // A path by its type byte: 0 empty, 1 standard, any other opaque. The path's bytes stand beside it.
-#[derive(Clone, Copy)]
+#[derive(Clone, Copy, Debug, PartialEq, Eq, Hash)]
 pub struct DataplanePath {
     pub path_type: u8,
 }
 
-// The flags of a hop field with its ingress or its egress alert flag set or cleared.
-fn with_alert(flags: u8, ingress: bool, enable: bool) -> u8
-    ensures { result ≡ with_bit (cond ingress 1 0) enable flags }
-{
-    if ingress {
-        return with_bit_1(flags, enable);
-    }
-    with_bit_0(flags, enable)
-}
-
-impl DataplaneRead {
+impl Extent {
     // A path that needs no reading: `length` bytes of it.
-    fn unread(length: usize) -> DataplaneRead
-        ensures { result ≡ spec.dataplane_read (ok (spec.unread length)) }
+    fn unread(length: usize) -> Extent
+        ensures { result ≡ spec.unread length }
     {
         let path = StandardPath::zero();
-        DataplaneRead {
-            answer: Decoded::Accepted,
-            path,
-            length,
-        }
-    }
-
-    fn refused(error: DecodeError) -> DataplaneRead
-        ensures { result ≡ spec.dataplane_read (refused error) }
-    {
-        let path = StandardPath::zero();
-        DataplaneRead {
-            answer: Decoded::Refused(error),
-            path,
-            length: 0,
-        }
-    }
-}
-
-impl PathAnswer {
-    // A call that was carried out, and the path that it leaves.
-    pub fn accepted(path: StandardPath) -> PathAnswer
-        ensures { result ≡ record { answer = answers.Accepted; path = path } }
-    {
-        PathAnswer {
-            answer: Answer::Accepted,
-            path,
-        }
-    }
-
-    pub fn refused(error: PathError) -> PathAnswer
-        ensures { result ≡ record { answer = answers.Refused error; path = no_path } }
-    {
-        let path = StandardPath::zero();
-        PathAnswer {
-            answer: Answer::Refused(error),
-            path,
-        }
-    }
-
-    // The refusal of a path that can't be read.
-    fn not_read(error: DecodeError) -> PathAnswer
-        ensures { result ≡ record { answer = answers.Refused (errors.Decode error); path = no_path } }
-    {
-        PathAnswer::refused(PathError::Decode(error))
-    }
-}
-
-impl Located {
-    // A field that lies in a path, from `start` on.
-    pub fn accepted(path: StandardPath, start: usize, len: usize) -> Located
-        ensures { result ≡ record { answer = answers.Accepted; path = path; part = record { start = start; len = len } } }
-    {
-        Located {
-            answer: Answer::Accepted,
-            path,
-            part: Part { start, len },
-        }
-    }
-
-    pub fn refused(error: PathError) -> Located
-        ensures { result ≡ spec.located no_path (refused error) }
-    {
-        let path = StandardPath::zero();
-        Located {
-            answer: Answer::Refused(error),
-            path,
-            part: Part { start: 0, len: 0 },
-        }
-    }
-
-    // `len` bytes from an offset on.
-    fn at(path: StandardPath, offset: Offset, len: usize) -> Located
-        ensures { result
-            ≡ spec.located path (and_then (offset_found offset) (λ start. ok (record { start = start; len = len }))) }
-    {
-        match offset {
-            Offset::At(start) => Located::accepted(path, start, len),
-            Offset::NoSuchField => Located::refused(PathError::NoSuchField),
-        }
+        Extent { path, length }
     }
 }
 
@@ -160,131 +52,122 @@ impl DataplanePath {
     }
 
     // Reads a path of this type: an empty one has no bytes, an opaque one is all of them.
-    pub fn decode(self, bytes: &[u8]) -> DataplaneRead
-        ensures value { result ≡ spec.dataplane_read (spec.read_dataplane self.path_type bytes.now) }
-        ensures expiry_le_largest_expiry { result.path.expiry ≤ largest_expiry }
+    #[tactic(auto, unfolding(crate::specs::Dataplane::read_dataplane))]
+    pub fn decode(self, bytes: &[u8]) -> Result<Extent, DecodeError>
+        ensures value { result ≡ spec.read_dataplane self.path_type bytes.now }
+        ensures expiry_le_largest_expiry { IfOk result (λ read. read.path.expiry ≤ largest_expiry) }
     {
         if self.path_type == DataplanePath::EMPTY {
-            return DataplaneRead::unread(0);
+            return Ok(Extent::unread(0));
         }
         if self.path_type != DataplanePath::SCION {
-            return DataplaneRead::unread(bytes.len());
+            return Ok(Extent::unread(bytes.len()));
         }
-        let read = StandardPath::decode(bytes);
-        let answer = read.answer;
-        if let Decoded::Refused(error) = answer {
-            return DataplaneRead::refused(error);
-        }
-        let path = read.path;
-        DataplaneRead {
-            answer: Decoded::Accepted,
+        let path = StandardPath::decode(bytes)?;
+        Ok(Extent {
             path,
             length: path.meta_header.encoded_path_length(),
-        }
+        })
     }
 
     // The path's own bytes; none where it is refused.
+    #[tactic(auto, using(crate::proofs::Reading::length_front))]
     pub fn raw(self, bytes: &[u8]) -> &[u8]
         ensures { result.now
-            ≡ take (spec.dataplane_read (spec.read_dataplane self.path_type bytes.now)).length bytes.now }
+            ≡ take (or_else (mapped (λ read. read.length) (spec.read_dataplane self.path_type bytes.now)) 0) bytes.now }
     {
-        let length = self.decode(bytes).length;
-        &bytes[..length]
+        match self.decode(bytes) {
+            Ok(read) => &bytes[..read.length],
+            Err(_) => &bytes[..0],
+        }
     }
 
     // Reading, then the refusal of every type but 1: where the calls on standard paths begin.
-    pub fn standard(self, bytes: &[u8]) -> PathAnswer
+    #[tactic(auto, using(crate::proofs::Reading::path_given), unfolding(crate::specs::Dataplane::standard, crate::specs::Dataplane::path_answer))]
+    pub fn standard(self, bytes: &[u8]) -> Result<StandardPath, PathError>
         ensures { result
             ≡ spec.path_answer (spec.path_of self.path_type bytes.now) (spec.standard self.path_type bytes.now) }
     {
-        let read = self.decode(bytes);
-        let answer = read.answer;
-        if let Decoded::Refused(error) = answer {
-            return PathAnswer::not_read(error);
-        }
+        let read = self.decode(bytes)?;
         if self.path_type != DataplanePath::SCION {
-            return PathAnswer::refused(PathError::NoSuchField);
+            return Err(PathError::NoSuchField);
         }
-        PathAnswer::accepted(read.path)
+        Ok(read.path)
     }
 
     // Where info field `index` lies.
-    pub fn locate_info_field(self, bytes: &[u8], index: usize) -> Located
+    #[tactic(auto, using(crate::proofs::Reading::answers_read), unfolding(crate::specs::Dataplane::info_field_in))]
+    pub fn locate_info_field(self, bytes: &[u8], index: usize) -> Result<Found<Part>, PathError>
         ensures { result
-            ≡ spec.located (spec.path_of self.path_type bytes.now)
+            ≡ beside (spec.path_of self.path_type bytes.now)
             (spec.info_field_in self.path_type bytes.now index) }
     {
-        let read = self.standard(bytes);
-        let answer = read.answer;
-        if let Answer::Refused(error) = answer {
-            return Located::refused(error);
-        }
-        let path = read.path;
-        Located::at(
+        let path = self.standard(bytes)?;
+        let start = path
+            .meta_header
+            .info_field_offset(index)
+            .ok_or(PathError::NoSuchField)?;
+        let len = InfoField::LENGTH;
+        Ok(Found {
             path,
-            path.meta_header.info_field_offset(index),
-            InfoField::LENGTH,
-        )
+            value: Part { start, len },
+        })
     }
 
     // Where hop field `index` lies.
-    pub fn locate_hop_field(self, bytes: &[u8], index: usize) -> Located
+    #[tactic(auto, using(crate::proofs::Reading::answers_read), unfolding(crate::specs::Dataplane::hop_field_in))]
+    pub fn locate_hop_field(self, bytes: &[u8], index: usize) -> Result<Found<Part>, PathError>
         ensures { result
-            ≡ spec.located (spec.path_of self.path_type bytes.now)
+            ≡ beside (spec.path_of self.path_type bytes.now)
             (spec.hop_field_in self.path_type bytes.now index) }
     {
-        let read = self.standard(bytes);
-        let answer = read.answer;
-        if let Answer::Refused(error) = answer {
-            return Located::refused(error);
-        }
-        let path = read.path;
-        Located::at(
+        let path = self.standard(bytes)?;
+        let start = path
+            .meta_header
+            .hop_field_offset(index)
+            .ok_or(PathError::NoSuchField)?;
+        let len = HopField::LENGTH;
+        Ok(Found {
             path,
-            path.meta_header.hop_field_offset(index),
-            HopField::LENGTH,
-        )
+            value: Part { start, len },
+        })
     }
 
     // Info field `index`, as a part of the path's bytes; empty where it is refused.
+    #[tactic(auto, using(crate::proofs::Reading::beside_ok, crate::proofs::Reading::beside_refused))]
     pub fn info_field(self, bytes: &[u8], index: usize) -> &[u8]
         ensures { result.now
-            ≡ spec.part_in bytes.now
-            (spec.located (spec.path_of self.path_type bytes.now)
-            (spec.info_field_in self.path_type bytes.now index)
-            ).part }
+            ≡ spec.part_in bytes.now (or_else (spec.info_field_in self.path_type bytes.now index) nowhere) }
     {
-        let part = self.locate_info_field(bytes, index).part;
-        part_of(bytes, part.start, part.len)
+        match self.locate_info_field(bytes, index) {
+            Ok(found) => found.value.of(bytes),
+            Err(_) => &bytes[..0],
+        }
     }
 
     // Hop field `index`, as a part of the path's bytes; empty where it is refused.
+    #[tactic(auto, using(crate::proofs::Reading::beside_ok, crate::proofs::Reading::beside_refused))]
     pub fn hop_field(self, bytes: &[u8], index: usize) -> &[u8]
         ensures { result.now
-            ≡ spec.part_in bytes.now
-            (spec.located (spec.path_of self.path_type bytes.now)
-            (spec.hop_field_in self.path_type bytes.now index)
-            ).part }
+            ≡ spec.part_in bytes.now (or_else (spec.hop_field_in self.path_type bytes.now index) nowhere) }
     {
-        let part = self.locate_hop_field(bytes, index).part;
-        part_of(bytes, part.start, part.len)
+        match self.locate_hop_field(bytes, index) {
+            Ok(found) => found.value.of(bytes),
+            Err(_) => &bytes[..0],
+        }
     }
 
     // Segment `index`: where its info field and its hop fields lie.
-    pub fn segment(self, bytes: &[u8], index: usize) -> Segment
+    #[tactic(auto, using(crate::proofs::Reading::answers_read), unfolding(crate::specs::Dataplane::segment_in))]
+    pub fn segment(self, bytes: &[u8], index: usize) -> Result<Found<Segment>, PathError>
         ensures { result
-            ≡ spec.segment (spec.path_of self.path_type bytes.now)
+            ≡ beside (spec.path_of self.path_type bytes.now)
             (spec.segment_in self.path_type bytes.now index) }
     {
-        let read = self.standard(bytes);
-        let answer = read.answer;
-        if let Answer::Refused(error) = answer {
-            return Segment::refused(error);
-        }
-        let path = read.path;
+        let path = self.standard(bytes)?;
         let meta_header = path.meta_header;
         if meta_header.info_fields_count() <= index {
-            return Segment::refused(PathError::NoSuchField);
+            return Err(PathError::NoSuchField);
         }
         let info_field = Part {
             start: PathMetaHeader::LENGTH + index * InfoField::LENGTH,
@@ -295,41 +178,45 @@ impl DataplanePath {
                 + meta_header.first_hop_field(index) * HopField::LENGTH,
             len: meta_header.segment_length(index) * HopField::LENGTH,
         };
-        Segment {
-            answer: Answer::Accepted,
+        Ok(Found {
             path,
-            info_field,
-            hop_fields,
-        }
+            value: Segment {
+                info_field,
+                hop_fields,
+            },
+        })
     }
 
     // The hop fields of segment `index`, as a part of the path's bytes; empty where it is refused.
+    #[tactic(auto, using(crate::proofs::Reading::beside_ok, crate::proofs::Reading::beside_refused))]
     pub fn segment_hop_fields(self, bytes: &[u8], index: usize) -> &[u8]
         ensures { result.now
-            ≡ spec.part_in bytes.now
-            (spec.segment (spec.path_of self.path_type bytes.now) (spec.segment_in self.path_type bytes.now index)
-            ).hop_fields }
+            ≡ spec.part_in bytes.now (or_else (spec.segment_in self.path_type bytes.now index) no_segment).hop_fields }
     {
-        let part = self.segment(bytes, index).hop_fields;
-        part_of(bytes, part.start, part.len)
+        match self.segment(bytes, index) {
+            Ok(found) => found.value.hop_fields.of(bytes),
+            Err(_) => &bytes[..0],
+        }
     }
 
-    // Sets or clears an alert flag of hop field `index`.
-    fn set_alert(self, bytes: &mut [u8], index: usize, ingress: bool, enable: bool) -> PathAnswer
+    // Sets or clears the alert flag that is bit `BIT` of the flags of hop field `index`.
+    #[tactic(auto, using(crate::proofs::Kept::flags), unfolding(crate::specs::Dataplane::written_answer))]
+    fn set_alert<const BIT: u32>(
+        self,
+        bytes: &mut [u8],
+        index: usize,
+        enable: bool,
+    ) -> Result<StandardPath, PathError>
+        requires { BIT < 8 }
         ensures value { result
-            ≡ spec.written_answer self.path_type (spec.alerted (cond ingress 1 0) enable self.path_type bytes.old index) }
+            ≡ spec.written_answer self.path_type (spec.alerted BIT enable self.path_type bytes.old index) }
         ensures bytes_after { bytes.new
-            ≡ spec.contents (spec.alerted (cond ingress 1 0) enable self.path_type bytes.old index) bytes.old }
+            ≡ spec.contents (spec.alerted BIT enable self.path_type bytes.old index) bytes.old }
     {
-        let located = self.locate_hop_field(bytes, index);
-        let answer = located.answer;
-        if let Answer::Refused(error) = answer {
-            return PathAnswer::refused(error);
-        }
-        let start = located.part.start;
-        let flags = bytes[start];
-        bytes[start] = with_alert(flags, ingress, enable);
-        PathAnswer::accepted(located.path)
+        let found = self.locate_hop_field(bytes, index)?;
+        let start = found.value.start;
+        bytes[start] = with_bit::<BIT>(bytes[start], enable);
+        Ok(found.path)
     }
 
     // Sets or clears the ingress alert flag of hop field `index`.
@@ -338,12 +225,12 @@ impl DataplanePath {
         bytes: &mut [u8],
         index: usize,
         enable: bool,
-    ) -> PathAnswer
+    ) -> Result<StandardPath, PathError>
         ensures value { result ≡ spec.written_answer self.path_type (spec.alerted 1 enable self.path_type bytes.old index) }
         ensures bytes_after { bytes.new
             ≡ spec.contents (spec.alerted 1 enable self.path_type bytes.old index) bytes.old }
     {
-        self.set_alert(bytes, index, true, enable)
+        self.set_alert::<1>(bytes, index, enable)
     }
 
     // Sets or clears the egress alert flag of hop field `index`.
@@ -352,11 +239,11 @@ impl DataplanePath {
         bytes: &mut [u8],
         index: usize,
         enable: bool,
-    ) -> PathAnswer
+    ) -> Result<StandardPath, PathError>
         ensures value { result ≡ spec.written_answer self.path_type (spec.alerted 0 enable self.path_type bytes.old index) }
         ensures bytes_after { bytes.new
             ≡ spec.contents (spec.alerted 0 enable self.path_type bytes.old index) bytes.old }
     {
-        self.set_alert(bytes, index, false, enable)
+        self.set_alert::<0>(bytes, index, enable)
     }
 }

@@ -1,13 +1,13 @@
 // The standard path: a meta header, info fields and hop fields, read from bytes.
-ghost use Rattle.std.specs.Prelude.{◌≡◌, ◌≤◌};
-ghost use Rattle.wire_encoding.specs.Result.{refused};
-ghost use Rattle.errors.specs.declared.packet_error.Decoded.TheVariants as decoded;
+ghost use Rattle.std.specs.Prelude.{◌≡◌, ◌≤◌, IfOk};
 ghost use Rattle.path_least_expiry.specs.Expiry.{largest_expiry};
 ghost use Rattle.path.specs.Standard as spec;
+ghost use Rattle.path.specs.Dataplane.{part_in};
 
-use errors::packet_error::{DecodeError, Decoded};
+use errors::packet_error::DecodeError;
 use path_least_expiry::path_expiry_or_zero;
 use path_meta_header::PathMetaHeader;
+use wire_encoding::read::part_of;
 
 pub mod peering;
 pub mod segment;
@@ -16,22 +16,22 @@ pub mod time_left;
 // The record of a path that was read: its meta header, and when it expires, in ms since 1970. Its bytes stay with the caller.
 // Where a path was refused, or is not a standard path, the record is all zero, and the 0 is no expiry.
 #[repr(C)]
-#[derive(Clone, Copy)]
+#[derive(Clone, Copy, Debug, PartialEq, Eq, Hash)]
 pub struct StandardPath {
     pub meta_header: PathMetaHeader,
     pub expiry: u64,
 }
 
-// A path that was read; its record is all zero where it was refused.
-#[derive(Clone, Copy)]
-pub struct PathRead {
-    pub answer: Decoded,
+// What is found of a path that was read, beside its record.
+#[derive(Clone, Copy, Debug, PartialEq, Eq, Hash)]
+pub struct Found<T> {
     pub path: StandardPath,
+    pub value: T,
 }
 
 // A part of the caller's bytes.
 #[repr(C)]
-#[derive(Clone, Copy)]
+#[derive(Clone, Copy, Debug, PartialEq, Eq, Hash)]
 pub struct Part {
     pub start: usize,
     pub len: usize,
@@ -50,44 +50,28 @@ impl StandardPath {
     }
 
     // Reads the path that begins `bytes`: its meta header, whether its fields are all there, and when it expires.
-    pub fn decode(bytes: &[u8]) -> PathRead
-        ensures value { result ≡ spec.path_read (spec.read_record bytes.now) }
-        ensures expiry_le_largest_expiry { result.path.expiry ≤ largest_expiry }
+    #[tactic(auto, using(crate::proofs::Reading::record_found), unfolding(crate::specs::Standard::read_record, crate::specs::Standard::read_path))]
+    pub fn decode(bytes: &[u8]) -> Result<StandardPath, DecodeError>
+        ensures value { result ≡ spec.read_record bytes.now }
+        ensures expiry_le_largest_expiry { IfOk result (λ path. path.expiry ≤ largest_expiry) }
     {
-        let read = PathMetaHeader::decode(bytes);
-        let answer = read.answer;
-        if let Decoded::Refused(error) = answer {
-            return PathRead::refused(error);
-        }
-        let meta_header = read.meta_header;
+        let meta_header = PathMetaHeader::decode(bytes)?;
         if bytes.len() < meta_header.encoded_path_length() {
-            return PathRead::refused(DecodeError::PacketEmptyOrTruncated);
+            return Err(DecodeError::PacketEmptyOrTruncated);
         }
         let expiry = path_expiry_or_zero(bytes, meta_header);
-        PathRead::accepted(StandardPath {
+        Ok(StandardPath {
             meta_header,
             expiry,
         })
     }
 }
 
-impl PathRead {
-    fn accepted(path: StandardPath) -> PathRead
-        ensures { result ≡ record { answer = decoded.Accepted; path = path } }
+impl Part {
+    // The bytes of the part; where it reaches beyond their end, what there is of it.
+    pub fn of(self, bytes: &[u8]) -> &[u8]
+        ensures { result.now ≡ part_in bytes.now self }
     {
-        PathRead {
-            answer: Decoded::Accepted,
-            path,
-        }
-    }
-
-    fn refused(error: DecodeError) -> PathRead
-        ensures { result ≡ spec.path_read (refused error) }
-    {
-        let path = StandardPath::zero();
-        PathRead {
-            answer: Decoded::Refused(error),
-            path,
-        }
+        part_of(bytes, self.start, self.len)
     }
 }

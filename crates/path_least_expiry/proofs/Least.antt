@@ -1,16 +1,37 @@
 -- The least of several numbers: one more of them, equal ones, the same in opposite order.
 -- Assumes nothing.
 use Prim.Native.Nat.{ℕ, zero, suc, ◌+◌, ◌-◌, ◌≤◌, min}
+use mathlib.Core.Bool.{Bool, true, false, cond}
 use mathlib.Core.Path.{◌≡◌, refl, sym, ap, ap₂, ◌∙◌}
-use native.Mathlib.Numerals.{add-one}
 use native.Mathlib.Omega.{arith}
+use borrow.Author.Tests.{lt-ltb, le-ltb}
+use Rattle.std.specs.Prelude.{◌==◌}
+use Rattle.std.specs.Ordering.{ord_min, nat_cmp, is_lt}
+use Rattle.std.specs.declared.cmp.Ordering.TheVariants.{Equal, Greater}
 use Rattle.wire_encoding.proofs.Lists.{by_lt}
 use Rattle.path_least_expiry.specs.Expiry.{least}
 
--- one more number, as a loop takes it
-pub least_more : (f : ℕ → ℕ) (last : ℕ) → least f (last + 1) ≡ min (least f last) (f (last + 1))
+-- `min` of two numbers is the lesser of them
+lesser : (a b : ℕ) → ord_min nat_cmp a b ≡ min a b
+lesser a b = by_lt b a (λ h. rw (lt-ltb b a h) (omega arith)) (λ h. rw (le-ltb b a h) (go (b == a) h))
+  where
+    go : (t : Bool) → a ≤ b → cond (is_lt (cond t Equal Greater)) b a ≡ min a b
+    go true h = omega arith
+    go false h = omega arith
+
+-- the first number, and one more, as a loop takes them
+pub least_one : (f : ℕ → ℕ) → least f 0 ≡ f 0
 unfolding least
-least_more f last = rw add-one
+least_one f = refl
+
+pub least_more : (f : ℕ → ℕ) (k : ℕ) {so_far next : ℕ} → 1 ≤ k → so_far ≡ ord_min nat_cmp (least f (k - 1)) next → next ≡ f k
+    → so_far ≡ least f (k + 1 - 1)
+unfolding least
+least_more f zero h step is = elim h [ ]
+least_more f (suc k) h step is =
+    let before : suc k - 1 ≡ k = omega arith in
+    let after : suc k + 1 - 1 ≡ suc k = omega arith in
+    rw after (rw (before, is) at step ∙ lesser (least f k) (f (suc k)))
 
 -- numbers that are equal one by one have the same least
 pub least-same : (f g : ℕ → ℕ) (last : ℕ) → ((j : ℕ) → j ≤ last → f j ≡ g j) → least f last ≡ least g last

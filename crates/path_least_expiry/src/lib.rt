@@ -1,40 +1,25 @@
 // When a path expires: the least expiry of its hop fields, by segment and of the whole path.
 #![tactic(auto)]
 
-ghost use Rattle.std.specs.Prelude.{◌≡◌, ◌+◌, ◌-◌, ◌/◌, ◌≤◌, ◌<◌, min, length};
+ghost use Rattle.std.specs.Prelude.{◌≡◌, ◌+◌, ◌-◌, ◌/◌, ◌≤◌, ◌<◌, length};
 ghost use Rattle.wire_encoding.specs.BigEndian.{big_endian};
 ghost use Rattle.path_meta_header.specs.MetaHeader as meta;
 ghost use Rattle.path_least_expiry.specs.Expiry as spec;
 
 use path_fields::{HopField, InfoField, expiry};
 use path_meta_header::PathMetaHeader;
-use wire_encoding::read::u32_or_zero;
-
-// The lesser of two numbers.
-fn lesser(a: u64, b: u64) -> u64
-    ensures { result ≡ min a b }
-{
-    if a < b { a } else { b }
-}
-
-// The lesser of two bytes.
-fn lesser_byte(a: u8, b: u8) -> u8
-    ensures { result ≡ min a b }
-{
-    if a < b { a } else { b }
-}
+use wire_encoding::read::get_or_zero;
 
 // The least expiry byte of a run of hop fields, of which there is at least one.
+#[tactic(auto, using(crate::proofs::Least::least_one, crate::proofs::Least::least_more))]
 fn least_exp_time(hop_fields: &[u8]) -> u8
     requires { 12 ≤ length hop_fields.now }
     ensures { result ≡ spec.least (spec.exp_time_at hop_fields.now 0) (length hop_fields.now / 12 - 1) }
 {
     let count = hop_fields.len() / HopField::LENGTH;
     let mut least = hop_fields[1];
-    let mut last: usize = 0;
-    while last + 1 < count {
-        last += 1;
-        least = lesser_byte(least, hop_fields[last * HopField::LENGTH + 1]);
+    for last in 1..count {
+        least = least.min(hop_fields[last * HopField::LENGTH + 1]);
     }
     least
 }
@@ -44,7 +29,7 @@ fn timestamp_at(bytes: &[u8], at: usize) -> u32
     requires { at + 8 ≤ length bytes.now }
     ensures { result ≡ big_endian 4 bytes.now (at + 4) }
 {
-    u32_or_zero(bytes, at + 4)
+    get_or_zero(bytes, at + 4)
 }
 
 // The expiry of segment `k`, which is there: the least of its hop fields'.
@@ -59,17 +44,16 @@ fn segment_expiry(bytes: &[u8], meta_header: PathMetaHeader, k: usize) -> u64
 }
 
 // The expiry of a path that was read: the least of its segments'.
+#[tactic(auto, using(crate::proofs::Least::least_one, crate::proofs::Least::least_more), unfolding(crate::specs::Expiry::path_expiry))]
 fn path_expiry(bytes: &[u8], meta_header: PathMetaHeader) -> u64
     requires { (0 < meta.info_fields_count meta_header) × (meta.path_length meta_header ≤ length bytes.now) }
     ensures { (result ≡ spec.path_expiry bytes.now meta_header) × (result ≤ spec.largest_expiry) }
 {
     let count = meta_header.info_fields_count();
     let mut least = segment_expiry(bytes, meta_header, 0);
-    let mut k: usize = 0;
-    while k + 1 < count {
-        k += 1;
+    for k in 1..count {
         let next = segment_expiry(bytes, meta_header, k);
-        least = lesser(least, next);
+        least = least.min(next);
     }
     least
 }

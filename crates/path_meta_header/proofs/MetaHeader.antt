@@ -17,7 +17,7 @@ use Rattle.errors.specs.declared.packet_error.DecodeError.{DecodeError}
 use Rattle.errors.specs.declared.packet_error.DecodeError.TheVariants.{InvalidPath}
 use Rattle.errors.specs.declared.path_error.DataplanePathErrorKind.TheVariants.{InvalidSegmentLengths}
 use Rattle.path_meta_header.specs.MetaHeader.{segment_length, info_fields_count, hop_fields_count, segment_of, first_hop_field, segment_of_link}
-use Rattle.path_meta_header.specs.MetaHeader.{lengths_valid, info_valid, hop_valid, checked, nth_field, meta_of, meta_read, Link, Links}
+use Rattle.path_meta_header.specs.MetaHeader.{lengths_valid, info_valid, hop_valid, checked, nth_field, meta_of, Link, Links}
 
 -- there are at most as many info fields as hop fields, since only lengths that are not zero count
 pub info_le_hop : (m : PathMetaHeader) → info_fields_count m ≤ hop_fields_count m

@@ -52,6 +52,10 @@ pub mapped_ok : {E A B : Type 0} (f : A → B) (r : Result A E) {b : B} → mapp
 mapped_ok f (Ok a) h = record { value = a; first = refl; then = h }
 mapped_ok f (Err error) h = absurd (not_both h)
 
+pub mapped_refused : {E A B : Type 0} (f : A → B) (r : Result A E) {error : E} → mapped f r ≡ Err error → r ≡ Err error
+mapped_refused f (Ok a) h = absurd (not_both (sym h))
+mapped_refused f (Err e) h = cc
+
 module _ {E A B C D : Type 0} (step : A → Result B E) (f : A → B → C) (g : A → B → D) where
   -- two chains of the same two steps are refused alike, whatever they make of the values
   pub refused_alike : (r : Result A E) {error : E} → and_then r (λ a. and_then (step a) (λ b. Ok (f a b))) ≡ Err error

@@ -1,44 +1,11 @@
 // The expiry and the time left of a path's record: they take the record alone, and its stored number as it is.
 ghost use Rattle.std.specs.Prelude.{◌≡◌, ◌≤◌};
 ghost use Rattle.std.proofs.Math.IntN.{sub_ℕ};
-ghost use Rattle.wire_encoding.specs.Result.{refused};
-ghost use Rattle.errors.specs.declared.path_error.Answer.TheVariants as answers;
-ghost use Rattle.path.specs.Standard.{no_path};
+ghost use Rattle.path.specs.Standard.{beside};
 ghost use Rattle.path.specs.TimeLeft as spec;
 
-use crate::standard::StandardPath;
-use errors::path_error::{Answer, PathError};
-
-// The time left in ms, below zero once the path has expired; all zero where it was refused.
-#[derive(Clone, Copy)]
-pub struct TimeLeft {
-    pub answer: Answer,
-    pub path: StandardPath,
-    pub ms: i64,
-}
-
-impl TimeLeft {
-    fn accepted(path: StandardPath, ms: i64) -> TimeLeft
-        ensures { result ≡ record { answer = answers.Accepted; path = path; ms = ms } }
-    {
-        TimeLeft {
-            answer: Answer::Accepted,
-            path,
-            ms,
-        }
-    }
-
-    pub fn refused(error: PathError) -> TimeLeft
-        ensures { result ≡ spec.time_left_found no_path (refused error) }
-    {
-        let path = StandardPath::zero();
-        TimeLeft {
-            answer: Answer::Refused(error),
-            path,
-            ms: 0,
-        }
-    }
-}
+use crate::standard::{Found, StandardPath};
+use errors::path_error::PathError;
 
 // An expiry less a time, both in ms and far below the largest number.
 fn left(expiry: u64, at: u64) -> i64
@@ -61,17 +28,20 @@ impl StandardPath {
         self.expiry
     }
 
-    // The record's expiry less `at`, both within their bounds.
-    #[tactic(auto, unfolding(crate::specs::TimeLeft::time_left_of, crate::specs::TimeLeft::time_left_found))]
-    pub fn time_left(self, at: u64) -> TimeLeft
-        ensures { result ≡ spec.time_left_found self (spec.time_left_of self at) }
+    // The record's expiry less `at` in ms, both within their bounds; below zero once the path has expired.
+    #[tactic(auto, unfolding(crate::specs::TimeLeft::time_left_of, crate::specs::Standard::beside))]
+    pub fn time_left(self, at: u64) -> Result<Found<i64>, PathError>
+        ensures { result ≡ beside self (spec.time_left_of self at) }
     {
         if StandardPath::MAX_EXPIRY < self.expiry {
-            return TimeLeft::refused(PathError::NumberTooWide);
+            return Err(PathError::NumberTooWide);
         }
         if StandardPath::MAX_TIME < at {
-            return TimeLeft::refused(PathError::NumberTooWide);
+            return Err(PathError::NumberTooWide);
         }
-        TimeLeft::accepted(self, left(self.expiry, at))
+        Ok(Found {
+            path: self,
+            value: left(self.expiry, at),
+        })
     }
 }

@@ -6,4 +6,4 @@ use Rattle.wire_encoding.proofs.BigEndian.{or_zero_is}
 use Rattle.path_least_expiry.proofs.timestamp_at.Goals as goal
 
 pub returns : goal.returns
-returns c = c.u32_or_zero.ensures ∙ or_zero_is 4 c.args.bytes.now (c.args.at + 4) (omega arith)
+returns c = c.get_or_zero.ensures ∙ or_zero_is 4 c.args.bytes.now (c.args.at + 4) (omega arith)
