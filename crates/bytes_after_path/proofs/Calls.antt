@@ -27,12 +27,14 @@ use Rattle.path_meta_header.proofs.Segment.{inside}
 use Rattle.path_least_expiry.specs.Expiry.{hop_expiry, segment_expiry}
 use Rattle.path_least_expiry.proofs.Least.{least-same}
 use Rattle.path.specs.Standard.{info_at, both_peering, peering_path}
-use Rattle.path.specs.Dataplane.{Extent, read_dataplane, dataplane_read, path_of, path_left, standard, info_field_in, hop_field_in, segment_in, alerted}
+use Rattle.path.specs.declared.dataplane.Extent.{Extent}
+use Rattle.path.specs.Dataplane.{read_dataplane, dataplane_read, path_of, path_left, standard, info_field_in, hop_field_in, segment_in, alerted}
 use Rattle.path.proofs.Reading.{Readable, record_read, standard_read}
 use Rattle.path.proofs.Kept.{readable_after, expires_after, record_after, path-alerted}
 use Rattle.path_hop_fields.specs.PathRuns.{hop_fields_in}
 use Rattle.path_expiry.specs.Expiry.{segment_expiry_in, expiry_in, time_left_in}
-use Rattle.path_interfaces.specs.Interfaces.{Place, count_on, hop_field_on, interface_at, interfaces_in, interface_in}
+use Rattle.path_interfaces.specs.declared.InterfaceAt.{InterfaceAt}
+use Rattle.path_interfaces.specs.Interfaces.{count_on, hop_field_on, interface_at, interfaces_in, interface_in}
 use Rattle.path_interfaces.proofs.Interfaces.{interface_there}
 use Rattle.path_reverse.specs.Copy.{copy}
 use Rattle.path_reverse.specs.Reverse.{reversed_records, flipped, same, reversed_under, reversed_path, reversed_bytes, reverse}
@@ -117,8 +119,8 @@ module _ (p t : List ℕ) (m : PathMetaHeader) (r : Readable p m) where
   unfolding interface_in interface_at
   interface_after i = rw (standard_read (p ++ t) m after, standard_read p m r, hop_field_after i) (go (hop_field_on p m i) refl)
     where
-      found : List ℕ → ℕ → Result Place PathError
-      found bytes j = Ok (record { hop = j; interface = interface_at bytes m j i })
+      found : List ℕ → ℕ → Result InterfaceAt PathError
+      found bytes j = Ok (record { hop_field = j; interface = interface_at bytes m j i })
 
       go : (of : Result ℕ PathError) → hop_field_on p m i ≡ of → and_then of (found (p ++ t)) ≡ and_then of (found p)
       go (Ok j) e =

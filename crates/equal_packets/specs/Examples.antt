@@ -107,7 +107,7 @@ NothingLeftOut =
 -- version 1, factor 8, lengths, info pointer and hop pointer of the path, a path byte left over, and a payload byte missing
 unfoldable pub numbers : List ℕ
 numbers =
-    let number : List ℕ → ℕ = λ bytes. decoded_number (decoded_of (read_packet bytes)) in
+    let number : List ℕ → ℕ = λ bytes. decoded_number (read_packet bytes) in
     let path : ℕ → ℕ → List ℕ = λ pointers lengths. pointers ∷ 0x00 ∷ 0x20 ∷ lengths ∷ replicate 32 0 in
     number (headers 0 9 0 0)
     ∷ number (longer 0 0 3 [])

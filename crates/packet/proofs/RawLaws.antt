@@ -17,7 +17,8 @@ use Rattle.wire_encoding.proofs.Lists.{length_part}
 use Rattle.errors.specs.declared.packet_error.Decoded.TheVariants.{Accepted, Refused}
 use Rattle.errors.specs.declared.packet_error.DecodeError.{DecodeError}
 use Rattle.errors.specs.declared.packet_error.DecodeError.TheVariants.{PacketEmptyOrTruncated, InconsistentPathLength}
-use Rattle.path.specs.Dataplane.{Extent, read_dataplane, part_in}
+use Rattle.path.specs.declared.dataplane.Extent.{Extent}
+use Rattle.path.specs.Dataplane.{read_dataplane, part_in}
 use Rattle.path.specs.declared.standard.StandardPath.{StandardPath}
 use Rattle.packet_common_header.specs.CommonHeader.{common_at, factor_of, zero_common, read_common, common_answer, header_length}
 use Rattle.packet_common_header.specs.declared.CommonHeader.{CommonHeader}

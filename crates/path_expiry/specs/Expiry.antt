@@ -3,7 +3,6 @@ use Rattle.std.specs.Prelude.{ℕ, ◌<◌, ◌≡◌, List, get_or, ℤ, ltb, l
 use Rattle.std.proofs.Math.IntN.{sub_ℕ}
 use Rattle.wire_encoding.specs.Result.{require, and_then, ◌>>◌, ◌>>=◌, mapped, or_else}
 use Rattle.path_meta_header.specs.MetaHeader.{info_fields_count}
-use Rattle.errors.specs.Errors.{answer_of}
 use Rattle.errors.specs.declared.path_error.PathError.{PathError}
 use Rattle.errors.specs.declared.path_error.PathError.TheVariants.{NoSuchField, NumberTooWide}
 use Rattle.path_least_expiry.specs.Expiry.{segment_expiry, path_expiry}
@@ -11,7 +10,6 @@ use Rattle.path.specs.Standard.{beside}
 use Rattle.path.specs.TimeLeft.{largest_time, time_left_of}
 use Rattle.path.specs.Dataplane.{standard, path_of}
 use Rattle.path.specs.declared.standard.StandardPath.{StandardPath}
-use Rattle.path_expiry.specs.declared.Expiry.{Expiry}
 
 -- of segment k; 8 where there is none
 unfoldable pub segment_expiry_in : ℕ → List ℕ → ℕ → Result ℕ PathError
@@ -39,7 +37,3 @@ AskedOfTheRecord =
     → let record_of = mapped (λ _. path_of type bytes) (standard type bytes) in
     (expiry_in type bytes ≡ mapped (λ (path : StandardPath). path.expiry) record_of)
     × ((now : ℕ) → time_left_in type bytes now ≡ and_then record_of (λ path. time_left_of path now))
-
--- what is handed back of an expiry, beside the record of the path: all zero where it is refused
-unfoldable pub expiry_found : StandardPath → Result ℕ PathError → Expiry
-expiry_found path r = record { answer = answer_of r; path = beside path r; ms = or_else r 0 }

@@ -2,90 +2,54 @@
 #![tactic(auto)]
 
 ghost use Rattle.std.specs.Prelude.{◌≡◌};
-ghost use Rattle.wire_encoding.specs.Result.{refused};
-ghost use Rattle.errors.specs.declared.path_error.Answer.TheVariants as answers;
-ghost use Rattle.path.specs.Standard.{no_path};
-ghost use Rattle.path.specs.TimeLeft.{time_left_found};
+ghost use Rattle.path.specs.Standard.{beside};
 ghost use Rattle.path.specs.Dataplane.{path_of};
 ghost use Rattle.path_expiry.specs.Expiry as spec;
 
-use errors::path_error::{Answer, PathError};
+use errors::path_error::PathError;
 use path::dataplane::DataplanePath;
-use path::standard::StandardPath;
-use path::standard::time_left::TimeLeft;
+use path::standard::Found;
 use path_least_expiry::segment_expiry_or_zero;
 
-// An expiry in ms since 1970; all zero where it was refused.
-#[derive(Clone, Copy)]
-pub struct Expiry {
-    pub answer: Answer,
-    pub path: StandardPath,
-    pub ms: u64,
-}
-
-impl Expiry {
-    fn accepted(path: StandardPath, ms: u64) -> Expiry
-        ensures { result ≡ record { answer = answers.Accepted; path = path; ms = ms } }
-    {
-        Expiry {
-            answer: Answer::Accepted,
-            path,
-            ms,
-        }
-    }
-
-    fn refused(error: PathError) -> Expiry
-        ensures { result ≡ spec.expiry_found no_path (refused error) }
-    {
-        let path = StandardPath::zero();
-        Expiry {
-            answer: Answer::Refused(error),
-            path,
-            ms: 0,
-        }
-    }
-}
-
-// The expiry of segment `index`: the least of its hop fields'.
-pub fn segment_expiry_time(path: DataplanePath, bytes: &[u8], index: usize) -> Expiry
+// The expiry of segment `index` in ms since 1970: the least of its hop fields'.
+#[tactic(auto, using(path::proofs::Reading::answers_read, crate::proofs::Asked::segment_there), unfolding(crate::specs::Expiry::segment_expiry_in))]
+pub fn segment_expiry_time(
+    path: DataplanePath,
+    bytes: &[u8],
+    index: usize,
+) -> Result<Found<u64>, PathError>
     ensures { result
-        ≡ spec.expiry_found (path_of path.path_type bytes.now)
+        ≡ beside (path_of path.path_type bytes.now)
         (spec.segment_expiry_in path.path_type bytes.now index) }
 {
-    let read = path.standard(bytes);
-    let answer = read.answer;
-    if let Answer::Refused(error) = answer {
-        return Expiry::refused(error);
+    let read = path.standard(bytes)?;
+    if read.meta_header.info_fields_count() <= index {
+        return Err(PathError::NoSuchField);
     }
-    let meta_header = read.path.meta_header;
-    if meta_header.info_fields_count() <= index {
-        return Expiry::refused(PathError::NoSuchField);
-    }
-    Expiry::accepted(read.path, segment_expiry_or_zero(bytes, meta_header, index))
+    Ok(Found {
+        path: read,
+        value: segment_expiry_or_zero(bytes, read.meta_header, index),
+    })
 }
 
-// The expiry of the path: the least of its segments'.
-pub fn expiry_time(path: DataplanePath, bytes: &[u8]) -> Expiry
+// The expiry of the path in ms since 1970: the least of its segments'.
+#[tactic(auto, using(path::proofs::Reading::answers_read, crate::proofs::Asked::stored), unfolding(crate::specs::Expiry::expiry_in))]
+pub fn expiry_time(path: DataplanePath, bytes: &[u8]) -> Result<Found<u64>, PathError>
     ensures { result
-        ≡ spec.expiry_found (path_of path.path_type bytes.now) (spec.expiry_in path.path_type bytes.now) }
+        ≡ beside (path_of path.path_type bytes.now) (spec.expiry_in path.path_type bytes.now) }
 {
-    let read = path.standard(bytes);
-    let answer = read.answer;
-    if let Answer::Refused(error) = answer {
-        return Expiry::refused(error);
-    }
-    Expiry::accepted(read.path, read.path.expiry_time())
+    let read = path.standard(bytes)?;
+    Ok(Found {
+        path: read,
+        value: read.expiry_time(),
+    })
 }
 
-// The path's expiry less `at`, a time of 0 to 9,000,000,000,000 ms.
-pub fn time_left(path: DataplanePath, bytes: &[u8], at: u64) -> TimeLeft
+// The path's expiry less `at`, a time of 0 to 9,000,000,000,000 ms; below zero once the path has expired.
+#[tactic(auto, using(path::proofs::Reading::answers_read, crate::proofs::Asked::time_left_told), unfolding(crate::specs::Expiry::expiry_in, crate::specs::Expiry::time_left_in))]
+pub fn time_left(path: DataplanePath, bytes: &[u8], at: u64) -> Result<Found<i64>, PathError>
     ensures { result
-        ≡ time_left_found (path_of path.path_type bytes.now) (spec.time_left_in path.path_type bytes.now at) }
+        ≡ beside (path_of path.path_type bytes.now) (spec.time_left_in path.path_type bytes.now at) }
 {
-    let read = path.standard(bytes);
-    let answer = read.answer;
-    if let Answer::Refused(error) = answer {
-        return TimeLeft::refused(error);
-    }
-    read.path.time_left(at)
+    path.standard(bytes)?.time_left(at)
 }

@@ -16,7 +16,7 @@ use Rattle.path_meta_header.specs.MetaHeader.{info_fields_count, hop_fields_coun
 use Rattle.path_meta_header.specs.MetaHeader.{hop_fields_start, hop_start}
 use Rattle.path_meta_header.specs.declared.PathMetaHeader.{PathMetaHeader}
 use Rattle.errors.specs.declared.path_error.PathError.{PathError}
-use Rattle.path.specs.Segment.{Fields, nowhere}
+use Rattle.path.specs.Segment.{nowhere}
 use Rattle.path.specs.Dataplane.{standard, segment_in, hop_field_in, part_in}
 use Rattle.path.specs.declared.standard.Part.{Part}
 use Rattle.path_meta_header.proofs.MetaHeader.{segment_within}
@@ -60,6 +60,6 @@ pub segment_runs : SegmentRuns
 unfolding SegmentRuns segment_in
 segment_runs type bytes k m segment read found =
     let there = held (ltb k (info_fields_count m)) _ _ (rw read at found) in
-    let is : ◌≡◌ {A = Part} (record { start = hop_start m (first_hop_field m k); len = segment_length m k * 12 }) segment.hops =
-    ap (λ (r : Result Fields PathError). (or_else r segment).hops) there.1 in
+    let is : ◌≡◌ {A = Part} (record { start = hop_start m (first_hop_field m k); len = segment_length m k * 12 }) segment.hop_fields =
+    ap (λ (r : Result Segment PathError). (or_else r segment).hop_fields) there.1 in
     rw (← is) (is_run type bytes m read (first_hop_field m k) (segment_length m k) (segment_within m k (ltb-true _ _ there.0)).1)

@@ -3,7 +3,7 @@
 use Prim.Native.Nat.{ℕ}
 use mathlib.Core.Path.{◌≡◌, refl}
 use mathlib.Core.List.{List, [], ◌∷◌, ◌++◌}
-use Rattle.errors.specs.Errors.{answer_of, answer_number}
+use Rattle.errors.specs.Errors.{answer_number}
 use Rattle.wire_encoding.specs.BigEndian.{records}
 use Rattle.path_fields.specs.Fields.{hop_field_at, zero_hop_field, new_hop_field}
 use Rattle.path_hop_fields.specs.Run as run
@@ -38,7 +38,7 @@ pub one_read : run.ends a ≡ record { first = hop_field_at a 0; last = zero_hop
 unfolding run.first run.last run.ends_of run.ends new_hop_field
 one_read = refl
 
-pub thirteen_bytes : (answer_number (answer_of (run.run_of (0xFF ∷ a))) ≡ 9)
-    × ((run.whole (0xFF ∷ a) ≡ []) × (answer_number (answer_of (run.run_of a)) ≡ 0))
+pub thirteen_bytes : (answer_number (run.run_of (0xFF ∷ a)) ≡ 9)
+    × ((run.whole (0xFF ∷ a) ≡ []) × (answer_number (run.run_of a) ≡ 0))
 unfolding run.run_of run.whole
 thirteen_bytes = (refl, (refl, refl))

@@ -5,7 +5,8 @@ use Rattle.path_meta_header.specs.MetaHeader.{hop_fields_count, first_hop_field,
 use Rattle.path_fields.specs.Fields.{hop_field_length}
 use Rattle.path_meta_header.specs.declared.PathMetaHeader.{PathMetaHeader}
 use Rattle.errors.specs.declared.path_error.PathError.{PathError}
-use Rattle.path.specs.Segment.{Fields, nowhere}
+use Rattle.path.specs.declared.standard.segment.Segment.{Segment}
+use Rattle.path.specs.Segment.{nowhere}
 use Rattle.path.specs.Dataplane.{standard, segment_in, hop_field_in, part_in}
 use Rattle.path.specs.declared.standard.Part.{Part}
 use Rattle.path_hop_fields.specs.Run.{count, hop_field}
@@ -24,9 +25,9 @@ pub record Run (type : ℕ) (bytes : List ℕ) (part : Part) (first n : ℕ) : T
   pub hop_field : (j : ℕ) → j < n → hop_field (part_in bytes part) j ≡ part_in bytes (or_else (hop_field_in type bytes (first + j)) nowhere)
 
 unfoldable pub SegmentRuns : Type 0
-SegmentRuns = (type : ℕ) (bytes : List ℕ) (k : ℕ) (m : PathMetaHeader) (segment : Fields) → standard type bytes ≡ Ok m → segment_in type bytes k
+SegmentRuns = (type : ℕ) (bytes : List ℕ) (k : ℕ) (m : PathMetaHeader) (segment : Segment) → standard type bytes ≡ Ok m → segment_in type bytes k
     ≡ Ok segment
-    → Run type bytes segment.hops (first_hop_field m k) (segment_length m k)
+    → Run type bytes segment.hop_fields (first_hop_field m k) (segment_length m k)
 
 unfoldable pub PathRuns : Type 0
 PathRuns = (type : ℕ) (bytes : List ℕ) (m : PathMetaHeader) (run : Part) → standard type bytes ≡ Ok m → hop_fields_in type bytes ≡ Ok run

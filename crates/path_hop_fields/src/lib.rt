@@ -5,37 +5,40 @@ pub mod run;
 pub mod view;
 
 ghost use Rattle.std.specs.Prelude.{◌≡◌};
-ghost use Rattle.path.specs.Dataplane.{path_of, located, part_in};
+ghost use Rattle.wire_encoding.specs.Result.{or_else};
+ghost use Rattle.path.specs.Segment.{nowhere};
+ghost use Rattle.path.specs.Standard.{beside};
+ghost use Rattle.path.specs.Dataplane.{path_of, part_in};
 ghost use Rattle.path_hop_fields.specs.PathRuns as spec;
 
-use errors::path_error::Answer;
-use path::dataplane::{DataplanePath, Located};
+use errors::path_error::PathError;
+use path::dataplane::DataplanePath;
+use path::standard::{Found, Part};
 use path_fields::HopField;
-use wire_encoding::read::part_of;
 
 // Where the hop fields of a standard path lie, all of them.
-pub fn locate(path: DataplanePath, bytes: &[u8]) -> Located
-    ensures { result ≡ located (path_of path.path_type bytes.now) (spec.hop_fields_in path.path_type bytes.now) }
+#[tactic(auto, using(path::proofs::Reading::answers_read), unfolding(crate::specs::PathRuns::hop_fields_in))]
+pub fn locate(path: DataplanePath, bytes: &[u8]) -> Result<Found<Part>, PathError>
+    ensures { result ≡ beside (path_of path.path_type bytes.now) (spec.hop_fields_in path.path_type bytes.now) }
 {
-    let read = path.standard(bytes);
-    let answer = read.answer;
-    if let Answer::Refused(error) = answer {
-        return Located::refused(error);
-    }
-    let meta_header = read.path.meta_header;
-    Located::accepted(
-        read.path,
-        meta_header.hop_fields_start(),
-        meta_header.hop_fields_count() * HopField::LENGTH,
-    )
+    let read = path.standard(bytes)?;
+    let meta_header = read.meta_header;
+    let start = meta_header.hop_fields_start();
+    let len = meta_header.hop_fields_count() * HopField::LENGTH;
+    Ok(Found {
+        path: read,
+        value: Part { start, len },
+    })
 }
 
 // The hop fields of a standard path, all of them, as a part of its bytes; empty where `locate` refuses.
+#[tactic(auto, using(path::proofs::Reading::beside_ok, path::proofs::Reading::beside_refused))]
 pub fn hop_fields(path: DataplanePath, bytes: &[u8]) -> &[u8]
     ensures { result.now
-        ≡ part_in bytes.now
-        (located (path_of path.path_type bytes.now) (spec.hop_fields_in path.path_type bytes.now)).part }
+        ≡ part_in bytes.now (or_else (spec.hop_fields_in path.path_type bytes.now) nowhere) }
 {
-    let part = locate(path, bytes).part;
-    part_of(bytes, part.start, part.len)
+    match locate(path, bytes) {
+        Ok(found) => found.value.of(bytes),
+        Err(_) => &bytes[..0],
+    }
 }

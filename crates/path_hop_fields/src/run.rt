@@ -1,23 +1,24 @@
 // A run of hop fields as bytes: the hop field at either end, what is left without it, how many there are.
 ghost use Rattle.std.specs.Prelude.{◌≡◌};
-ghost use Rattle.errors.specs.Errors.{answer_of};
+ghost use Rattle.wire_encoding.specs.Result.{done};
 ghost use Rattle.path_hop_fields.specs.Run as spec;
 
-use errors::path_error::{Answer, PathError};
+use errors::path_error::PathError;
 use path_fields::HopField;
 
 // Whether bytes are a run of hop fields: their number has to be a multiple of 12.
-pub fn check(bytes: &[u8]) -> Answer
-    ensures { result ≡ answer_of (spec.run_of bytes.now) }
+#[tactic(auto, unfolding(crate::specs::Run::run_of, wire_encoding::specs::Result::done))]
+pub fn check(bytes: &[u8]) -> Result<(), PathError>
+    ensures { result ≡ done (spec.run_of bytes.now) }
 {
     if bytes.len() % HopField::LENGTH == 0 {
-        return Answer::Accepted;
+        return Ok(());
     }
-    Answer::Refused(PathError::InadequateBufferSize)
+    Err(PathError::InadequateBufferSize)
 }
 
 // The run that the bytes are; empty where they are refused.
-pub fn whole<'a>(bytes: &'a [u8]) -> &'a [u8]
+pub fn whole(bytes: &[u8]) -> &[u8]
     ensures { result.now ≡ spec.whole bytes.now }
 {
     if bytes.len() % HopField::LENGTH == 0 {
@@ -34,7 +35,7 @@ pub fn count(run: &[u8]) -> usize
 }
 
 // The hop field at the front; empty where none is left.
-pub fn first<'a>(run: &'a [u8]) -> &'a [u8]
+pub fn first(run: &[u8]) -> &[u8]
     ensures { result.now ≡ spec.first run.now }
 {
     if run.len() < HopField::LENGTH {
@@ -44,7 +45,7 @@ pub fn first<'a>(run: &'a [u8]) -> &'a [u8]
 }
 
 // The run without the hop field at its front.
-pub fn after_first<'a>(run: &'a [u8]) -> &'a [u8]
+pub fn after_first(run: &[u8]) -> &[u8]
     ensures { result.now ≡ spec.after_first run.now }
 {
     if run.len() < HopField::LENGTH {
@@ -54,7 +55,7 @@ pub fn after_first<'a>(run: &'a [u8]) -> &'a [u8]
 }
 
 // The hop field at the back; empty where none is left.
-pub fn last<'a>(run: &'a [u8]) -> &'a [u8]
+pub fn last(run: &[u8]) -> &[u8]
     ensures { result.now ≡ spec.last run.now }
 {
     if run.len() < HopField::LENGTH {
@@ -64,7 +65,7 @@ pub fn last<'a>(run: &'a [u8]) -> &'a [u8]
 }
 
 // The run without the hop field at its back.
-pub fn before_last<'a>(run: &'a [u8]) -> &'a [u8]
+pub fn before_last(run: &[u8]) -> &[u8]
     ensures { result.now ≡ spec.before_last run.now }
 {
     if run.len() < HopField::LENGTH {

@@ -11,7 +11,7 @@ pub struct HopFields<'a> {
 }
 
 // What is read at the front of a run, what is then read at its back, and how many hop fields are left between.
-#[derive(Clone, Copy)]
+#[derive(Clone, Copy, Debug, PartialEq, Eq, Hash)]
 pub struct Ends {
     pub first: HopField,
     pub last: HopField,
@@ -55,21 +55,19 @@ impl<'a> HopFields<'a> {
 }
 
 // The ends of a run, of which two parts and a count were read.
-fn ends_of<'a>(first: &'a [u8], last: &'a [u8], between: usize) -> Ends
+#[tactic(auto, unfolding(crate::specs::Run::ends_of, path_fields::specs::Fields::zero_hop_field))]
+fn ends_of(first: &[u8], last: &[u8], between: usize) -> Ends
     ensures { result ≡ spec.ends_of first.now last.now between }
 {
-    let front = HopField::new(first);
-    let back = HopField::new(last);
-    let first_field = front.field;
-    let last_field = back.field;
     Ends {
-        first: first_field,
-        last: last_field,
+        first: HopField::new(first).unwrap_or(HopField::ZERO),
+        last: HopField::new(last).unwrap_or(HopField::ZERO),
         between,
     }
 }
 
 // Reads a run of hop fields at the front and then at the back; a hop field that is not there is all zero.
+#[tactic(auto, unfolding(crate::specs::Run::ends))]
 pub fn read_ends(bytes: &[u8]) -> Ends
     ensures { result ≡ spec.ends (spec.whole bytes.now) }
 {

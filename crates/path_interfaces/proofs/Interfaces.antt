@@ -19,7 +19,8 @@ use Rattle.path_meta_header.proofs.MetaHeader.{links, between, segment_below}
 use Rattle.path.specs.Standard.{peering_path}
 use Rattle.path.specs.Dataplane.{standard}
 use Rattle.path.proofs.Reading.{Readable, standard_readable}
-use Rattle.path_interfaces.specs.Interfaces.{Place, count_on, hop_field_on, interfaces_in, interface_at, interface_in, hop_is_there}
+use Rattle.path_interfaces.specs.declared.InterfaceAt.{InterfaceAt}
+use Rattle.path_interfaces.specs.Interfaces.{count_on, hop_field_on, interfaces_in, interface_at, interface_in, hop_is_there}
 use Rattle.path_interfaces.specs.Interfaces.{Joins, OfLink, EveryLink, EveryIndex, OtherPaths}
 
 -- BY THE KIND OF PATH: which indexes are there, and of which hop fields
@@ -122,18 +123,18 @@ pub every_index : EveryIndex
 unfolding interface_in link_end
 every_index bytes m read i place h = go (peering_path bytes m) refl
   where
-    found : hop_field_on bytes m i ≡ Ok place.hop
+    found : hop_field_on bytes m i ≡ Ok place.hop_field
     found =
         let known = stepped (standard 1 bytes) _ h in
         let hop = stepped (hop_field_on bytes known.value i) _ known.then in
         let same : known.value ≡ m = same_value (sym known.first ∙ read) in
-        rw (← same) (hop.first ∙ ap (λ (p : Place). Ok p.hop) (same_value hop.then))
+        rw (← same) (hop.first ∙ ap (λ (p : InterfaceAt). Ok p.hop_field) (same_value hop.then))
 
     -- from the first hop field of its link
-    from : {j : ℕ} → place.hop - i % 2 ≡ j → OfLink bytes m i j → OfLink bytes m i (place.hop - i % 2)
+    from : {j : ℕ} → place.hop_field - i % 2 ≡ j → OfLink bytes m i j → OfLink bytes m i (place.hop_field - i % 2)
     from e link = rw e link
 
-    go : (peering : Bool) → peering_path bytes m ≡ peering → OfLink bytes m i (place.hop - i % 2)
+    go : (peering : Bool) → peering_path bytes m ≡ peering → OfLink bytes m i (place.hop_field - i % 2)
     go true e =
         let half = peering_found bytes m e i found in
         let below : i / 2 + 1 < hop_fields_count m = omega (arith, half.0) in
@@ -163,6 +164,6 @@ other_paths type bytes m read other =
     (rw (read, other) refl, λ i. rw (read, other_hop_field bytes m other i) (go i (hop_field_of m i)))
   where
     go : (i : ℕ) (of : Result ℕ PathError)
-        → mapped (λ (place : Place). place.hop) (and_then of (λ j. Ok (record { hop = j; interface = interface_at bytes m j i }))) ≡ of
+        → mapped (λ (place : InterfaceAt). place.hop_field) (and_then of (λ j. Ok (record { hop_field = j; interface = interface_at bytes m j i }))) ≡ of
     go i (Ok j) = refl
     go i (Err error) = refl

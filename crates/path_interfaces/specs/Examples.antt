@@ -4,8 +4,9 @@ use mathlib.Core.List.{List, [], ◌∷◌, ◌++◌, map, flat_map}
 use Rattle.wire_encoding.specs.Result.{mapped}
 use Rattle.errors.specs.declared.path_error.PathError.{PathError}
 use Rattle.errors.specs.declared.path_error.PathError.TheVariants.{NoSuchField}
-use Rattle.path_fields.specs.declared.Interface.TheVariants.{Id}
-use Rattle.path_interfaces.specs.Interfaces.{Place, interfaces_in, interface_in}
+use Rattle.std.specs.Prelude.{Some}
+use Rattle.path_interfaces.specs.declared.InterfaceAt.{InterfaceAt}
+use Rattle.path_interfaces.specs.Interfaces.{interfaces_in, interface_in}
 
 -- THE PATHS
 
@@ -56,7 +57,7 @@ OtherCounts =
 
 -- the hop field of interface i
 unfoldable pub hop_field_for : List ℕ → ℕ → Result ℕ PathError
-hop_field_for bytes i = mapped (λ (place : Place). place.hop) (interface_in 1 bytes i)
+hop_field_for bytes i = mapped (λ (place : InterfaceAt). place.hop_field) (interface_in 1 bytes i)
 
 -- each, and one beyond the count: with peering on both of 1, 1 and of 1, 2, and on all of 2, 2, 2
 abbrev pub HopFieldsFound : Type 0
@@ -67,8 +68,8 @@ HopFieldsFound =
     ≡ Ok 0 ∷ Ok 1 ∷ Ok 2 ∷ Ok 3 ∷ Ok 4 ∷ Ok 5 ∷ Err NoSuchField ∷ [])
 
 -- interface `number`, of hop field j
-unfoldable pub at : ℕ → ℕ → Result Place PathError
-at j number = Ok (record { hop = j; interface = Id number })
+unfoldable pub at : ℕ → ℕ → Result InterfaceAt PathError
+at j number = Ok (record { hop_field = j; interface = Some number })
 
 -- of 2, 2, the first segment against construction direction: with peering on both, also at the count and at the largest index; on one
 abbrev pub InterfacesFound : Type 0

@@ -4,17 +4,13 @@ use Rattle.std.specs.Prelude.{ℕ, ◌+◌, ◌-◌, ◌*◌, ◌/◌, ◌%◌, 
 use Rattle.wire_encoding.specs.Result.{require, ◌>>◌, ◌>>=◌, mapped, or_else}
 use Rattle.path_meta_header.specs.MetaHeader.{info_fields_count, hop_fields_count, segment_of, interfaces_count, link_end, hop_field_of, hop_start}
 use Rattle.path_meta_header.specs.declared.PathMetaHeader.{PathMetaHeader}
-use Rattle.path_fields.specs.Fields.{ingress_interface, egress_interface}
-use Rattle.path_fields.specs.declared.Interface.{Interface}
-use Rattle.path_fields.specs.declared.Interface.TheVariants as interface
-use Rattle.errors.specs.Errors.{answer_of}
+use Rattle.path_fields.specs.Fields.{Interface, ingress_interface, egress_interface}
 use Rattle.errors.specs.declared.path_error.PathError.{PathError}
 use Rattle.errors.specs.declared.path_error.PathError.TheVariants.{NoSuchField}
 use Rattle.path.specs.Dataplane.{standard}
+use Rattle.path_interfaces.specs.declared.InterfaceAt.{InterfaceAt}
 use Rattle.path.specs.Standard.{info_at, hop_at, peering_path, beside}
 use Rattle.path.specs.declared.standard.StandardPath.{StandardPath}
-use Rattle.path_interfaces.specs.declared.InterfaceCount.{InterfaceCount}
-use Rattle.path_interfaces.specs.declared.InterfaceAt.{InterfaceAt}
 
 -- how many there are: 2 · (N − 1) on a peering path, whose segments a link joins too; on other paths the header's 2 · (N − I)
 unfoldable pub count_on : List ℕ → PathMetaHeader → ℕ
@@ -43,24 +39,11 @@ unfoldable pub interface_at : List ℕ → PathMetaHeader → ℕ → ℕ → In
 interface_at bytes m j i = cond (eqb (i % 2) 0) (egress_at bytes m j) (ingress_at bytes m j)
 
 -- interface i and its hop field
-pub record Place : Type 0 where
-  pub hop : ℕ
-  pub interface : Interface
-
-unfoldable pub interface_in : ℕ → List ℕ → ℕ → Result Place PathError
+unfoldable pub interface_in : ℕ → List ℕ → ℕ → Result InterfaceAt PathError
 interface_in type bytes i = do
   m ← standard type bytes
   j ← hop_field_on bytes m i
-  Ok (record { hop = j; interface = interface_at bytes m j i })
-
--- what is handed back, beside the record of the path: all zero where it is refused
-unfoldable pub interface_count : StandardPath → Result ℕ PathError → InterfaceCount
-interface_count path r = record { answer = answer_of r; path = beside path r; count = or_else r 0 }
-
-unfoldable pub interface_found : StandardPath → Result Place PathError → InterfaceAt
-interface_found path r =
-    let found = or_else r (record { hop = 0; interface = interface.None }) in
-    record { answer = answer_of r; path = beside path r; hop_field = found.hop; interface = found.interface }
+  Ok (record { hop_field = j; interface = interface_at bytes m j i })
 
 -- hop field j and its segment's info field are among the bytes
 pub record hop_is_there (bytes : List ℕ) (m : PathMetaHeader) (j : ℕ) : Type 0 where
@@ -71,8 +54,8 @@ pub record hop_is_there (bytes : List ℕ) (m : PathMetaHeader) (j : ℕ) : Type
 
 -- link l joins hop fields j and j + 1: index 2l is the egress of the one, index 2l + 1 the ingress of the other
 pub record Joins (bytes : List ℕ) (m : PathMetaHeader) (l j : ℕ) : Type 0 where
-  pub egress : interface_in 1 bytes (2 * l) ≡ Ok (record { hop = j; interface = egress_at bytes m j })
-  pub ingress : interface_in 1 bytes (2 * l + 1) ≡ Ok (record { hop = j + 1; interface = ingress_at bytes m (j + 1) })
+  pub egress : interface_in 1 bytes (2 * l) ≡ Ok (record { hop_field = j; interface = egress_at bytes m j })
+  pub ingress : interface_in 1 bytes (2 * l + 1) ≡ Ok (record { hop_field = j + 1; interface = ingress_at bytes m (j + 1) })
 
 -- a theorem: link l of a peering path joins hop fields l and l + 1, the middle two among them; on other paths, hop fields j and j + 1 of
 -- one segment k are joined by link j − k
@@ -93,12 +76,12 @@ pub record OfLink (bytes : List ℕ) (m : PathMetaHeader) (i j : ℕ) : Type 0 w
 -- even, else the one before it
 abbrev pub EveryIndex : Type 0
 EveryIndex =
-    (bytes : List ℕ) (m : PathMetaHeader) → standard 1 bytes ≡ Ok m → (i : ℕ) (place : Place) → interface_in 1 bytes i ≡ Ok place
-    → OfLink bytes m i (place.hop - i % 2)
+    (bytes : List ℕ) (m : PathMetaHeader) → standard 1 bytes ≡ Ok m → (i : ℕ) (place : InterfaceAt) → interface_in 1 bytes i ≡ Ok place
+    → OfLink bytes m i (place.hop_field - i % 2)
 
 -- a theorem: other paths than peering paths have the header's count and its hop fields
 abbrev pub OtherPaths : Type 0
 OtherPaths =
     (type : ℕ) (bytes : List ℕ) (m : PathMetaHeader) → standard type bytes ≡ Ok m → peering_path bytes m ≡ false
     → (interfaces_in type bytes ≡ Ok (interfaces_count m))
-    × ((i : ℕ) → mapped (λ (place : Place). place.hop) (interface_in type bytes i) ≡ hop_field_of m i)
+    × ((i : ℕ) → mapped (λ (place : InterfaceAt). place.hop_field) (interface_in type bytes i) ≡ hop_field_of m i)

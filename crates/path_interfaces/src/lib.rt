@@ -2,86 +2,28 @@
 #![tactic(auto)]
 
 ghost use Rattle.std.specs.Prelude.{◌≡◌};
-ghost use Rattle.wire_encoding.specs.Result.{refused};
-ghost use Rattle.path_meta_header.specs.MetaHeader as meta;
-ghost use Rattle.errors.specs.declared.path_error.Answer.TheVariants as answers;
-ghost use Rattle.path.specs.Standard.{no_path};
+ghost use Rattle.std.specs.Option.{ok_or};
+ghost use Rattle.errors.specs.declared.path_error.PathError.TheVariants.{NoSuchField};
+ghost use Rattle.path.specs.Standard.{beside};
 ghost use Rattle.path.specs.Dataplane.{path_of};
 ghost use Rattle.path_interfaces.specs.Interfaces as spec;
 
-use errors::path_error::{Answer, PathError};
+use errors::path_error::PathError;
 use path::dataplane::DataplanePath;
-use path::standard::StandardPath;
+use path::standard::Found;
 use path::standard::peering::is_peering_path;
 use path_fields::{HopField, InfoField, Interface};
-use path_meta_header::{HopFieldOf, PathMetaHeader};
+use path_meta_header::PathMetaHeader;
 
-// The number of interfaces; all zero where it was refused.
-#[derive(Clone, Copy)]
-pub struct InterfaceCount {
-    pub answer: Answer,
-    pub path: StandardPath,
-    pub count: usize,
-}
-
-// An interface and the hop field that it belongs to; all zero where it was refused.
-#[derive(Clone, Copy)]
+// An interface, and the hop field that it belongs to.
+#[derive(Clone, Copy, Debug, PartialEq, Eq, Hash)]
 pub struct InterfaceAt {
-    pub answer: Answer,
-    pub path: StandardPath,
     pub hop_field: usize,
     pub interface: Interface,
 }
 
-impl InterfaceCount {
-    fn accepted(path: StandardPath, count: usize) -> InterfaceCount
-        ensures { result ≡ record { answer = answers.Accepted; path = path; count = count } }
-    {
-        InterfaceCount {
-            answer: Answer::Accepted,
-            path,
-            count,
-        }
-    }
-
-    fn refused(error: PathError) -> InterfaceCount
-        ensures { result ≡ spec.interface_count no_path (refused error) }
-    {
-        let path = StandardPath::zero();
-        InterfaceCount {
-            answer: Answer::Refused(error),
-            path,
-            count: 0,
-        }
-    }
-}
-
-impl InterfaceAt {
-    fn accepted(path: StandardPath, hop_field: usize, interface: Interface) -> InterfaceAt
-        ensures { result ≡ record { answer = answers.Accepted; path = path; hop_field = hop_field; interface = interface } }
-    {
-        InterfaceAt {
-            answer: Answer::Accepted,
-            path,
-            hop_field,
-            interface,
-        }
-    }
-
-    fn refused(error: PathError) -> InterfaceAt
-        ensures { result ≡ spec.interface_found no_path (refused error) }
-    {
-        let path = StandardPath::zero();
-        InterfaceAt {
-            answer: Answer::Refused(error),
-            path,
-            hop_field: 0,
-            interface: Interface::None,
-        }
-    }
-}
-
 // The number of interfaces of a path that was read.
+#[tactic(auto, using(path::proofs::Peering::two_segments, path_meta_header::proofs::MetaHeader::info_le_hop), unfolding(crate::specs::Interfaces::count_on))]
 fn count_on(bytes: &[u8], meta_header: PathMetaHeader) -> usize
     ensures { result ≡ spec.count_on bytes.now meta_header }
 {
@@ -92,14 +34,15 @@ fn count_on(bytes: &[u8], meta_header: PathMetaHeader) -> usize
 }
 
 // The hop field that interface `index` of a path that was read belongs to.
-fn hop_field_on(bytes: &[u8], meta_header: PathMetaHeader, index: usize) -> HopFieldOf
-    ensures { meta.hop_field_found result ≡ spec.hop_field_on bytes.now meta_header index }
+#[tactic(auto, unfolding(crate::specs::Interfaces::hop_field_on, crate::specs::Interfaces::count_on, path_meta_header::specs::MetaHeader::hop_field_of))]
+fn hop_field_on(bytes: &[u8], meta_header: PathMetaHeader, index: usize) -> Option<usize>
+    ensures { ok_or result NoSuchField ≡ spec.hop_field_on bytes.now meta_header index }
 {
     if count_on(bytes, meta_header) <= index {
-        return HopFieldOf::NoSuchInterface;
+        return None;
     }
     if is_peering_path(meta_header, bytes) {
-        return HopFieldOf::Index((index + 1) / 2);
+        return Some((index + 1) / 2);
     }
     meta_header.hop_field_index_for_interface(index)
 }
@@ -123,36 +66,38 @@ fn interface_at(bytes: &[u8], meta_header: PathMetaHeader, hop: usize, index: us
 }
 
 // The number of interfaces on the path.
-pub fn interfaces_count(path: DataplanePath, bytes: &[u8]) -> InterfaceCount
+#[tactic(auto, using(path::proofs::Reading::answers_read), unfolding(crate::specs::Interfaces::interfaces_in))]
+pub fn interfaces_count(path: DataplanePath, bytes: &[u8]) -> Result<Found<usize>, PathError>
     ensures { result
-        ≡ spec.interface_count (path_of path.path_type bytes.now) (spec.interfaces_in path.path_type bytes.now) }
+        ≡ beside (path_of path.path_type bytes.now) (spec.interfaces_in path.path_type bytes.now) }
 {
-    let read = path.standard(bytes);
-    let answer = read.answer;
-    if let Answer::Refused(error) = answer {
-        return InterfaceCount::refused(error);
-    }
-    InterfaceCount::accepted(read.path, count_on(bytes, read.path.meta_header))
+    let read = path.standard(bytes)?;
+    Ok(Found {
+        path: read,
+        value: count_on(bytes, read.meta_header),
+    })
 }
 
 // Interface `index` in the order of travel, and its hop field: its egress where the index is even, else its ingress.
-pub fn interface(path: DataplanePath, bytes: &[u8], index: usize) -> InterfaceAt
+#[tactic(auto, using(path::proofs::Reading::answers_read, crate::proofs::Interfaces::interface_there), unfolding(crate::specs::Interfaces::interface_in))]
+pub fn interface(
+    path: DataplanePath,
+    bytes: &[u8],
+    index: usize,
+) -> Result<Found<InterfaceAt>, PathError>
     ensures { result
-        ≡ spec.interface_found (path_of path.path_type bytes.now)
+        ≡ beside (path_of path.path_type bytes.now)
         (spec.interface_in path.path_type bytes.now index) }
 {
-    let read = path.standard(bytes);
-    let answer = read.answer;
-    if let Answer::Refused(error) = answer {
-        return InterfaceAt::refused(error);
-    }
-    let meta_header = read.path.meta_header;
-    match hop_field_on(bytes, meta_header, index) {
-        HopFieldOf::Index(hop) => InterfaceAt::accepted(
-            read.path,
-            hop,
-            interface_at(bytes, meta_header, hop, index),
-        ),
-        HopFieldOf::NoSuchInterface => InterfaceAt::refused(PathError::NoSuchField),
-    }
+    let read = path.standard(bytes)?;
+    let meta_header = read.meta_header;
+    let hop_field = hop_field_on(bytes, meta_header, index).ok_or(PathError::NoSuchField)?;
+    let interface = interface_at(bytes, meta_header, hop_field, index);
+    Ok(Found {
+        path: read,
+        value: InterfaceAt {
+            hop_field,
+            interface,
+        },
+    })
 }

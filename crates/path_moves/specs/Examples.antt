@@ -1,7 +1,10 @@
 -- Worked examples of moves and walks: what bytes a move leaves, what accumulator is met, and what a walk reports.
-use Rattle.std.specs.Prelude.{ℕ, ◌≡◌, List, [], ◌∷◌, map, take}
+use Rattle.std.specs.Prelude.{ℕ, ◌≡◌, false, List, [], ◌∷◌, map, take}
 use Rattle.errors.specs.Errors.{answer_number}
+use Rattle.wire_encoding.specs.Result.{or_else}
+use Rattle.path.specs.Standard.{no_path}
 use Rattle.path.specs.Dataplane.{meta_header_of}
+use Rattle.path_moves.specs.declared.WalkAnswer.{WalkAnswer}
 use Rattle.path_moves.specs.Moves.{info_of, moved, walk, walked, walk_answer}
 
 -- THE PATHS: a line for the meta header, for each info field, for each hop field
@@ -75,8 +78,10 @@ met bytes n =
 -- what a walk reports: the answer's number, the moves, the hop pointer, the expiry
 unfoldable pub reported : List ℕ → ℕ → List ℕ
 reported bytes limit =
+    let refused : WalkAnswer = record { path = no_path; moves = 0; arrived = false } in
     let answer = walk_answer 1 (walk 1 bytes limit) in
-    answer_number answer.answer ∷ answer.moves ∷ answer.path.meta_header.current_hop_field ∷ answer.path.expiry ∷ []
+    let walk = or_else answer refused in
+    answer_number answer ∷ walk.moves ∷ walk.path.meta_header.current_hop_field ∷ walk.path.expiry ∷ []
 
 -- the owner is the first hop field in construction direction, the second against it
 abbrev pub FirstBytes : Type 0

@@ -8,11 +8,10 @@ use Rattle.wire_encoding.specs.BigEndian.{big_endian, bytes_of}
 use Rattle.path_fields.specs.declared.InfoField.{InfoField}
 use Rattle.path_meta_header.specs.MetaHeader.{segment_length, hop_fields_count, segment_of, first_hop_field, info_start, hop_start}
 use Rattle.path_meta_header.specs.declared.PathMetaHeader.{PathMetaHeader}
-use Rattle.errors.specs.Errors.{answer_of}
 use Rattle.errors.specs.declared.path_error.PathError.{PathError}
 use Rattle.errors.specs.declared.path_error.PathError.TheVariants.{AtLastHopField}
 use Rattle.path.specs.Standard.{info_at}
-use Rattle.path.specs.Dataplane.{meta_header_of, path_left, KeepsExpiry}
+use Rattle.path.specs.Dataplane.{meta_header_of, path_of, path_left, KeepsExpiry}
 use Rattle.path_moves.specs.Rules.{owner_of, spared, movable}
 use Rattle.path_moves.specs.declared.Position.{Position}
 use Rattle.path_moves.specs.declared.Moved.{Moved}
@@ -87,11 +86,9 @@ walked type bytes limit = or_else (mapped (λ (w : Way). w.bytes) (walk type byt
 unfoldable pub walk_count : ℕ → List ℕ → ℕ → ℕ
 walk_count type bytes limit = or_else (mapped (λ (w : Way). w.moves) (walk type bytes limit)) 0
 
--- what is handed back of it, beside the record of the path that it leaves: all zero where it is refused
-unfoldable pub walk_answer : ℕ → Result Way PathError → WalkAnswer
-walk_answer type r =
-    let way = or_else r (record { bytes = []; moves = 0; arrived = false }) in
-    record { answer = answer_of r; path = path_left type (mapped (λ (w : Way). w.bytes) r); moves = way.moves; arrived = way.arrived }
+-- what is handed back of it, beside the record of the path that it leaves
+unfoldable pub walk_answer : ℕ → Result Way PathError → Result WalkAnswer PathError
+walk_answer type r = mapped (λ (w : Way). record { path = path_of type w.bytes; moves = w.moves; arrived = w.arrived }) r
 
 -- WHAT HOP FIELD i MEETS BY THE PATH ALONE
 

@@ -1,22 +1,21 @@
 // Moves: how a packet's path goes from hop field to hop field. Move, walk, owner and spared are document 01's words.
 #![tactic(auto)]
 
-ghost use Rattle.std.specs.Prelude.{◌≡◌, ◌+◌, ◌≤◌, ◌<◌, length};
+ghost use Rattle.std.specs.Prelude.{◌≡◌, ◌+◌, ◌≤◌, ◌<◌, length, Ok};
 ghost use Rattle.path.specs.Standard.{info_at};
 ghost use Rattle.path_meta_header.specs.MetaHeader.{path_length, info_start};
 ghost use Rattle.path.specs.Dataplane.{path_of, path_answer, written_answer};
 ghost use Rattle.path_moves.specs.Rules as rules;
-ghost use Rattle.wire_encoding.specs.Result.{ok, refused};
 ghost use Rattle.path_moves.specs.Moves as spec;
 
-use errors::path_error::{Answer, PathError};
-use path::dataplane::{DataplanePath, PathAnswer};
+use errors::path_error::PathError;
+use path::dataplane::DataplanePath;
 use path::standard::StandardPath;
 use path::standard::peering::both_peering;
 use path_fields::{HopField, InfoField};
 use path_meta_header::PathMetaHeader;
-use wire_encoding::read::{u16_or_zero, wide};
-use wire_encoding::write::put_u16;
+use wire_encoding::number::Number;
+use wire_encoding::read::{get_or_zero, wide};
 
 // Info field `k`, which is there.
 fn info_field_at(bytes: &[u8], k: usize) -> InfoField
@@ -24,7 +23,7 @@ fn info_field_at(bytes: &[u8], k: usize) -> InfoField
     ensures { result ≡ info_at bytes.now k }
 {
     let at = PathMetaHeader::LENGTH + k * InfoField::LENGTH;
-    InfoField::new(&bytes[at..at + InfoField::LENGTH]).field
+    InfoField::new(&bytes[at..at + InfoField::LENGTH]).unwrap()
 }
 
 // Whether peering is set on one of the first `count` info fields.
@@ -32,12 +31,10 @@ fn some_peering(bytes: &[u8], count: usize) -> bool
     requires { (info_start count ≤ length bytes.now) × (count ≤ 3) }
     ensures { result ≡ rules.some_peering bytes.now count }
 {
-    let mut k: usize = 0;
-    while k < count {
+    for k in 0..count {
         if info_field_at(bytes, k).is_peering() {
             return true;
         }
-        k += 1;
     }
     false
 }
@@ -56,23 +53,19 @@ fn peering_allowed(bytes: &[u8], meta_header: PathMetaHeader) -> bool
 
 // Reading, 8 for every type but 1, then 13 for too many hop fields and 14 for peering: where moves and walks begin.
 #[tactic(auto, using(path::proofs::Reading::answers_read), unfolding(crate::specs::Rules::movable, path::specs::Dataplane::path_answer))]
-pub fn movable(path: DataplanePath, bytes: &[u8]) -> PathAnswer
+pub fn movable(path: DataplanePath, bytes: &[u8]) -> Result<StandardPath, PathError>
     ensures { result
         ≡ path_answer (path_of path.path_type bytes.now) (rules.movable path.path_type bytes.now) }
 {
-    let read = path.standard(bytes);
-    let answer = read.answer;
-    if let Answer::Refused(error) = answer {
-        return PathAnswer::refused(error);
-    }
-    let meta_header = read.path.meta_header;
+    let read = path.standard(bytes)?;
+    let meta_header = read.meta_header;
     if 64 < meta_header.hop_fields_count() {
-        return PathAnswer::refused(PathError::TooManyHopFields);
+        return Err(PathError::TooManyHopFields);
     }
     if peering_allowed(bytes, meta_header) {
-        return PathAnswer::accepted(read.path);
+        return Ok(read);
     }
-    PathAnswer::refused(PathError::PeeringNotOnBoth)
+    Err(PathError::PeeringNotOnBoth)
 }
 
 // The owner of the move from hop field `hop` inside a segment: the hop field whose code the accumulator takes in.
@@ -100,44 +93,29 @@ pub fn is_spared(info_field: InfoField, owner: usize, first_length: usize) -> bo
 }
 
 // The pair of pointers in a path's bytes.
-#[derive(Clone, Copy)]
+#[derive(Clone, Copy, Debug, PartialEq, Eq, Hash)]
 pub struct Position {
     pub current_info_field: u8,
     pub current_hop_field: u8,
 }
 
 // A move: the new position, and what the accumulator of the segment that was left changes by.
-#[derive(Clone, Copy)]
+#[derive(Clone, Copy, Debug, PartialEq, Eq, Hash)]
 pub struct Moved {
     pub position: Position,
     pub change: u16,
 }
 
-// A walk: how many moves it made, and whether it stands at the last hop field; all zero where it was refused.
-#[derive(Clone, Copy)]
+// A walk that was made: the record of the path that it leaves, how many moves it made, and whether it stands at the last hop field.
+#[derive(Clone, Copy, Debug, PartialEq, Eq, Hash)]
 pub struct WalkAnswer {
-    pub answer: Answer,
     pub path: StandardPath,
     pub moves: usize,
     pub arrived: bool,
 }
 
-impl WalkAnswer {
-    fn refused(error: PathError) -> WalkAnswer
-        ensures { result ≡ spec.walk_answer 1 (refused error) }
-    {
-        let path = StandardPath::zero();
-        WalkAnswer {
-            answer: Answer::Refused(error),
-            path,
-            moves: 0,
-            arrived: false,
-        }
-    }
-}
-
 // How many moves a walk made, and the header that it left.
-#[derive(Clone, Copy)]
+#[derive(Clone, Copy, Debug, PartialEq, Eq, Hash)]
 pub struct Walked {
     pub meta_header: PathMetaHeader,
     pub moves: usize,
@@ -185,7 +163,7 @@ impl Position {
         let owner_at = meta_header.hop_fields_start() + owner * HopField::LENGTH;
         Moved {
             position,
-            change: u16_or_zero(bytes, owner_at + 6),
+            change: get_or_zero(bytes, owner_at + 6),
         }
     }
 }
@@ -194,12 +172,10 @@ impl Position {
 fn at_position(meta_header: PathMetaHeader, position: Position) -> PathMetaHeader
     ensures { result ≡ spec.at_position meta_header position }
 {
-    let segment_lengths = meta_header.segment_lengths;
     PathMetaHeader {
         current_info_field: position.current_info_field,
         current_hop_field: position.current_hop_field,
-        reserved: meta_header.reserved,
-        segment_lengths,
+        ..meta_header
     }
 }
 
@@ -211,9 +187,9 @@ fn apply(bytes: &mut [u8], segment: usize, moved: Moved)
 {
     let at = PathMetaHeader::LENGTH + segment * InfoField::LENGTH + 2;
     let position = moved.position;
-    let accumulator = u16_or_zero(bytes, at) ^ moved.change;
+    let accumulator = get_or_zero::<u16>(bytes, at) ^ moved.change;
     bytes[0] = position.current_info_field * 64 + position.current_hop_field;
-    put_u16(bytes, at, accumulator);
+    accumulator.write_be(&mut bytes[at..at + 2]);
 }
 
 // One move of a path that can be moved; hands back the header that it leaves.
@@ -225,75 +201,58 @@ fn step(bytes: &mut [u8], meta_header: PathMetaHeader) -> PathMetaHeader
     let position = Position::of(meta_header);
     let moved = position.moved(bytes, meta_header);
     apply(bytes, wide(meta_header.current_info_field), moved);
-    let there = moved.position;
-    at_position(meta_header, there)
+    at_position(meta_header, moved.position)
 }
 
 // One move on lent bytes: the hop pointer gains 1, the info pointer names the new segment, the accumulator takes the owner's code in.
-pub fn single_move(path: DataplanePath, bytes: &mut [u8]) -> PathAnswer
+pub fn single_move(path: DataplanePath, bytes: &mut [u8]) -> Result<StandardPath, PathError>
     ensures value { result ≡ written_answer path.path_type (spec.move path.path_type bytes.old) }
     ensures bytes_after { bytes.new ≡ spec.moved path.path_type bytes.old }
 {
-    let read = movable(path, bytes);
-    let answer = read.answer;
-    if let Answer::Refused(error) = answer {
-        return PathAnswer::refused(error);
-    }
-    let meta_header = read.path.meta_header;
+    let read = movable(path, bytes)?;
+    let meta_header = read.meta_header;
     if wide(meta_header.current_hop_field) + 1 == meta_header.hop_fields_count() {
-        return PathAnswer::refused(PathError::AtLastHopField);
+        return Err(PathError::AtLastHopField);
     }
     let left = step(bytes, meta_header);
-    PathAnswer::accepted(StandardPath {
+    Ok(StandardPath {
         meta_header: left,
-        expiry: read.path.expiry,
+        expiry: read.expiry,
     })
 }
 
 // Moves until the last hop field or the limit.
 fn steps(bytes: &mut [u8], start: PathMetaHeader, limit: usize) -> Walked
-    requires { rules.movable 1 bytes.old ≡ ok start }
+    requires { rules.movable 1 bytes.old ≡ Ok start }
     ensures moves_value { result.moves ≡ spec.walk_moves start limit }
     ensures bytes_value { path_of 1 (spec.iterate result.moves (spec.moved 1) bytes.old)
         ≡ record { meta_header = result.meta_header; expiry = (path_of 1 bytes.old).expiry } }
     ensures bytes_after { bytes.new ≡ spec.iterate result.moves (spec.moved 1) bytes.old }
 {
-    let count = start.hop_fields_count();
+    let to_the_last = start.hop_fields_count() - 1 - wide(start.current_hop_field);
+    let moves = limit.min(to_the_last);
     let mut meta_header = start;
-    let mut hop = wide(start.current_hop_field);
-    let mut moves: usize = 0;
-    while moves < limit {
-        if hop + 1 == count {
-            break;
-        }
+    for _ in 0..moves {
         meta_header = step(bytes, meta_header);
-        hop += 1;
-        moves += 1;
     }
     Walked { meta_header, moves }
 }
 
 // A walk on lent bytes: moves until the last hop field or the limit.
-pub fn walk(path: DataplanePath, bytes: &mut [u8], limit: usize) -> WalkAnswer
+pub fn walk(path: DataplanePath, bytes: &mut [u8], limit: usize) -> Result<WalkAnswer, PathError>
     ensures value { result ≡ spec.walk_answer path.path_type (spec.walk path.path_type bytes.old limit) }
     ensures bytes_after { bytes.new ≡ spec.walked path.path_type bytes.old limit }
 {
-    let read = movable(path, bytes);
-    let answer = read.answer;
-    if let Answer::Refused(error) = answer {
-        return WalkAnswer::refused(error);
-    }
-    let start = read.path.meta_header;
+    let read = movable(path, bytes)?;
+    let start = read.meta_header;
     let walked = steps(bytes, start, limit);
     let moves = walked.moves;
-    let left = walked.meta_header;
-    WalkAnswer {
-        answer: Answer::Accepted,
+    Ok(WalkAnswer {
         path: StandardPath {
-            meta_header: left,
-            expiry: read.path.expiry,
+            meta_header: walked.meta_header,
+            expiry: read.expiry,
         },
         moves,
         arrived: wide(start.current_hop_field) + moves + 1 == start.hop_fields_count(),
-    }
+    })
 }

@@ -22,7 +22,8 @@ use Rattle.path_meta_header.specs.Reversal.{reversed_meta}
 use Rattle.path_meta_header.specs.declared.PathMetaHeader.{PathMetaHeader}
 use Rattle.path_meta_header.proofs.MetaHeader.{counted}
 use Rattle.path.specs.Standard.{read_record}
-use Rattle.path.specs.Dataplane.{Extent, unread, read_dataplane, dataplane_read, path_of, contents, written_answer}
+use Rattle.path.specs.declared.dataplane.Extent.{Extent}
+use Rattle.path.specs.Dataplane.{unread, read_dataplane, dataplane_read, path_of, contents, written_answer}
 use Rattle.path.proofs.Reading.{no_record, length_inside, Readable}
 use Rattle.path.proofs.Kept.{record_after}
 use Rattle.path_reverse.specs.Copy.{Written, into, copy, front, contents_after, written_path}

@@ -29,7 +29,8 @@ use Rattle.path_meta_header.proofs.Reversal.{Runs, rows_run}
 use Rattle.path_least_expiry.specs.Expiry.{least, hop_expiry, segment_expiry, path_expiry}
 use Rattle.path_least_expiry.proofs.Least.{least_back}
 use Rattle.path.specs.Standard.{info_at, read_record}
-use Rattle.path.specs.Dataplane.{Extent, read_dataplane, path_of}
+use Rattle.path.specs.declared.dataplane.Extent.{Extent}
+use Rattle.path.specs.Dataplane.{read_dataplane, path_of}
 use Rattle.path.specs.declared.standard.StandardPath.{StandardPath}
 use Rattle.path.proofs.Reading.{by_record, no_record, Readable, readable, record_readable, path_of_lem}
 use Rattle.path.proofs.Kept.{path_kept, keeps, readable_within, within}

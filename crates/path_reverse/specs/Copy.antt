@@ -1,12 +1,11 @@
 -- A path of any type written into a destination, and copying. Document 01's order for turning and copying: reading, then 9; request
 -- 2026-08: 9 only where the destination is shorter than the path.
 use Rattle.std.specs.Prelude.{ℕ, List, ◌++◌, length, take, drop, leb, Result, Ok}
-use Rattle.wire_encoding.specs.Result.{require, ◌>>◌, ◌>>=◌, mapped, or_else, refusing}
-use Rattle.errors.specs.Errors.{answer_of}
+use Rattle.wire_encoding.specs.Result.{require, ◌>>◌, ◌>>=◌, mapped, refusing}
 use Rattle.errors.specs.declared.path_error.PathError.{PathError}
 use Rattle.errors.specs.declared.path_error.PathError.TheVariants.{Decode, InadequateBufferSize}
-use Rattle.path.specs.Dataplane.{read_dataplane, contents, path_left, KeepsExpiry}
-use Rattle.path_reverse.specs.declared.WrittenPath.{WrittenPath}
+use Rattle.path.specs.declared.dataplane.Extent.{Extent}
+use Rattle.path.specs.Dataplane.{read_dataplane, contents, path_of, KeepsExpiry}
 
 -- a path that was written: how many bytes it has, and what the destination then holds
 pub record Written : Type 0 where
@@ -32,14 +31,9 @@ front written = take written.length written.left
 abbrev pub contents_after : Result Written PathError → List ℕ → List ℕ
 contents_after r dst = contents (mapped (λ (written : Written). written.left) r) dst
 
--- what is handed out: the answer, the record of the front, and its length; zeros where the call is refused
-unfoldable pub written_path : ℕ → Result Written PathError → WrittenPath
-written_path type r =
-    record {
-      answer = answer_of r;
-      path = path_left type (mapped front r);
-      length = or_else (mapped (λ (written : Written). written.length) r) 0;
-    }
+-- what is handed out: the record of the front, and its length
+unfoldable pub written_path : ℕ → Result Written PathError → Result Extent PathError
+written_path type r = mapped (λ (written : Written). record { path = path_of type (front written); length = written.length }) r
 
 -- a theorem: the record of a copy fits it, and has the expiry of the path that was read
 abbrev pub CopyKeepsExpiry : Type 0

@@ -1,13 +1,13 @@
 -- Request 2026-08: the destination of a copy and of a reversal may be longer than the path. What is promised of both calls, by the length of
 -- the destination; what each writes of a path is a parameter.
 use Rattle.std.specs.Prelude.{ℕ, ◌≤◌, ◌<◌, ◌≡◌, cond, ◌||◌, List, ◌++◌, length, take, drop, eqb, Result, Ok, Err}
-use Rattle.wire_encoding.specs.Result.{require, ◌>>◌, ◌>>=◌, refusing}
+use Rattle.wire_encoding.specs.Result.{require, ◌>>◌, ◌>>=◌, mapped, refusing}
 use Rattle.errors.specs.declared.path_error.PathError.{PathError}
 use Rattle.errors.specs.declared.path_error.PathError.TheVariants.{Decode, InadequateBufferSize}
 use Rattle.path.specs.Standard.{read_record}
-use Rattle.path.specs.Dataplane.{Extent, read_dataplane, contents, written_answer}
-use Rattle.path.specs.declared.dataplane.PathAnswer.{PathAnswer}
-use Rattle.path_reverse.specs.declared.WrittenPath.{WrittenPath}
+use Rattle.path.specs.declared.dataplane.Extent.{Extent}
+use Rattle.path.specs.Dataplane.{read_dataplane, contents, written_answer}
+use Rattle.path.specs.declared.standard.StandardPath.{StandardPath}
 use Rattle.path_reverse.specs.Copy.{Written, copy, front, contents_after, written_path}
 use Rattle.path_reverse.specs.Reverse.{reversed_bytes, reverse}
 
@@ -34,8 +34,8 @@ abbrev pub NotLonger : ℕ → List ℕ → List ℕ → Type 0
 NotLonger type bytes dst = (read : Extent) → read_dataplane type bytes ≡ Ok read → (type ≡ 0 → ⊥) → length dst ≤ read.length
 
 -- an answer without its length
-abbrev pub without_length : WrittenPath → PathAnswer
-without_length w = record { answer = w.answer; path = w.path }
+abbrev pub without_length : Result Extent PathError → Result StandardPath PathError
+without_length r = mapped (λ (written : Extent). written.path) r
 
 -- WHAT IS PROMISED OF A CALL
 

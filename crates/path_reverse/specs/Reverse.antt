@@ -14,7 +14,8 @@ use Rattle.errors.specs.declared.path_error.PathError.{PathError}
 use Rattle.errors.specs.declared.path_error.PathError.TheVariants.{Decode}
 use Rattle.path_least_expiry.specs.Expiry.{path_expiry}
 use Rattle.path.specs.Standard.{read_path}
-use Rattle.path.specs.Dataplane.{Extent, read_dataplane, KeepsExpiry}
+use Rattle.path.specs.declared.dataplane.Extent.{Extent}
+use Rattle.path.specs.Dataplane.{read_dataplane, KeepsExpiry}
 use Rattle.path_reverse.specs.Copy.{Written, into, front}
 
 -- f of each of the first n records of k bytes, in opposite order

@@ -3,9 +3,11 @@ use Rattle.std.specs.Prelude.{ℕ, ◌≡◌, List, [], ◌∷◌, ◌++◌, rep
 use Rattle.wire_encoding.specs.Result.{mapped, or_else}
 use Rattle.wire_encoding.specs.BigEndian.{big_endian}
 use Rattle.errors.specs.Errors.{decoded_of, decoded_number, decoded_value, answer_of, answer_number}
-use Rattle.path.specs.Dataplane.{Extent, read_dataplane}
+use Rattle.path.specs.declared.dataplane.Extent.{Extent}
+use Rattle.path.specs.Dataplane.{read_dataplane}
 use Rattle.path_expiry.specs.Expiry.{expiry_in}
-use Rattle.path_interfaces.specs.Interfaces.{Place, interface_in}
+use Rattle.path_interfaces.specs.declared.InterfaceAt.{InterfaceAt}
+use Rattle.path_interfaces.specs.Interfaces.{interface_in}
 use Rattle.path_moves.specs.Moves.{move, moved}
 use Rattle.packet.specs.Raw.{read_packet}
 
@@ -13,7 +15,7 @@ use Rattle.packet.specs.Raw.{read_packet}
 unfoldable pub reading : List ℕ → List ℕ
 reading meta =
     let read = read_dataplane 1 (meta ++ replicate 60 0) in
-    decoded_number (decoded_of read) ∷ or_else (mapped (λ (path : Extent). path.length) read) 0 ∷ []
+    decoded_number read ∷ or_else (mapped (λ (path : Extent). path.length) read) 0 ∷ []
 
 -- splitting a packet of these bytes: the answer's number, and its value
 unfoldable pub splitting : List ℕ → List ℕ
@@ -25,13 +27,13 @@ splitting bytes =
 unfoldable pub expiring : List ℕ → ℕ → List ℕ
 expiring time e =
     let expiry = expiry_in 1 ((0x00 ∷ 0x00 ∷ 0x10 ∷ 0x00 ∷ 0x01 ∷ 0x00 ∷ 0x00 ∷ 0x00 ∷ []) ++ time ++ (0x00 ∷ e ∷ []) ++ replicate 10 0) in
-    answer_number (answer_of expiry) ∷ or_else expiry 0 ∷ []
+    answer_number expiry ∷ or_else expiry 0 ∷ []
 
 -- interface i of a path of lengths 2, 2, 0, peering on neither segment: the answer's number, and the hop field that it belongs to
 unfoldable pub interface_of_two_by_two : ℕ → List ℕ
 interface_of_two_by_two i =
     let found = interface_in 1 ((0x00 ∷ 0x00 ∷ 0x20 ∷ 0x80 ∷ []) ++ replicate 64 0) i in
-    answer_number (answer_of found) ∷ or_else (mapped (λ (place : Place). place.hop) found) 0 ∷ []
+    answer_number found ∷ or_else (mapped (λ (place : InterfaceAt). place.hop_field) found) 0 ∷ []
 
 -- a single move of a path of two hop fields in construction direction, accumulator 1111, first code A0 0B: the answer's number, and the
 -- accumulator
@@ -39,7 +41,7 @@ unfoldable pub moving : List ℕ
 moving =
     let path : List ℕ =
     (0x00 ∷ 0x00 ∷ 0x20 ∷ 0x00 ∷ 0x01 ∷ 0x00 ∷ 0x11 ∷ 0x11 ∷ []) ++ replicate 10 0 ++ (0xA0 ∷ 0x0B ∷ []) ++ replicate 16 0 in
-    answer_number (answer_of (move 1 path)) ∷ big_endian 2 (moved 1 path) 6 ∷ []
+    answer_number (move 1 path) ∷ big_endian 2 (moved 1 path) 6 ∷ []
 
 -- what is answered
 unfoldable pub answers : List (List ℕ)

@@ -14,7 +14,8 @@ use Rattle.address.specs.declared.service.ServiceAddr.{ServiceAddr}
 use Rattle.address.specs.declared.host.HostAddr.TheVariants.{Svc}
 use Rattle.path_meta_header.specs.MetaHeader.{path_length}
 use Rattle.path.specs.Standard.{read_record}
-use Rattle.path.specs.Dataplane.{Extent, read_dataplane}
+use Rattle.path.specs.declared.dataplane.Extent.{Extent}
+use Rattle.path.specs.Dataplane.{read_dataplane}
 use Rattle.path.specs.declared.standard.StandardPath.{StandardPath}
 use Rattle.packet_common_header.specs.CommonHeader as common
 use Rattle.packet_common_header.specs.CommonHeader.{host_length, common_bytes}

@@ -14,7 +14,8 @@ use Rattle.wire_encoding.specs.BigEndian.{part}
 use Rattle.wire_encoding.proofs.Result.{same_value}
 use Rattle.wire_encoding.proofs.Lists.{Bytes, part_join, bytes_part}
 use Rattle.errors.specs.declared.packet_error.DecodeError.{DecodeError}
-use Rattle.path.specs.Dataplane.{Extent, unread, read_dataplane}
+use Rattle.path.specs.declared.dataplane.Extent.{Extent}
+use Rattle.path.specs.Dataplane.{unread, read_dataplane}
 use Rattle.packet_common_header.specs.CommonHeader.{common_at, header_length, host_length, common_bytes, common_fits}
 use Rattle.packet_common_header.specs.declared.CommonHeader.{CommonHeader}
 use Rattle.packet_common_header.proofs.CommonHeaderLaws.{common_known, widths_fit}
