@@ -5,7 +5,7 @@ use Rattle.errors.specs.declared.packet_error.DecodeError.TheVariants.{PacketEmp
 use Rattle.path.specs.Dataplane.{part_in}
 use Rattle.packet_common_header.specs.CommonHeader.{read_common}
 use Rattle.packet_common_header.specs.declared.CommonHeader.{CommonHeader}
-use Rattle.packet.specs.Raw.{Packet, read_packet, read_capture, packet_answer, capture_answer}
+use Rattle.packet.specs.Raw.{Packet, read_packet, read_capture, raw_packet, packet_answer, short_capture}
 
 abbrev pub Reader : Type 0
 Reader = List ℕ → Result Packet DecodeError
@@ -20,34 +20,35 @@ OfBoth Said = Said read_packet × Said read_capture
 abbrev pub PartsOfThePacket : Reader → Type 0
 PartsOfThePacket read =
     (bytes : List ℕ) (p : Packet) → read bytes ≡ Ok p
-    → let answer = packet_answer (read bytes) in
-    (part_in bytes answer.path_part ≡ p.path_bytes) × (part_in bytes answer.payload_part ≡ p.payload)
+    → (packet_answer (read bytes) ≡ Ok (raw_packet p))
+    × (part_in bytes (raw_packet p).path_part ≡ p.path_bytes)
+    × (part_in bytes (raw_packet p).payload_part ≡ p.payload)
 
 -- a packet that is accepted is a capture that is read alike, and not short
 abbrev pub PacketsAreCaptures : Type 0
 PacketsAreCaptures =
-    (bytes : List ℕ) (p : Packet) → read_packet bytes ≡ Ok p → (read_capture bytes ≡ Ok p) × ((capture_answer bytes).short ≡ false)
+    (bytes : List ℕ) (p : Packet) → read_packet bytes ≡ Ok p → (read_capture bytes ≡ Ok p) × (short_capture bytes ≡ false)
 
 -- a capture that is accepted and not short is a packet that is read alike
 abbrev pub CapturesArePackets : Type 0
 CapturesArePackets =
-    (bytes : List ℕ) (p : Packet) → read_capture bytes ≡ Ok p → (capture_answer bytes).short ≡ false → read_packet bytes ≡ Ok p
+    (bytes : List ℕ) (p : Packet) → read_capture bytes ≡ Ok p → short_capture bytes ≡ false → read_packet bytes ≡ Ok p
 
 -- SHORT
 
 -- no, where a capture is refused
 abbrev pub ShortOfARefusal : Type 0
-ShortOfARefusal = (bytes : List ℕ) (error : DecodeError) → read_capture bytes ≡ Err error → (capture_answer bytes).short ≡ false
+ShortOfARefusal = (bytes : List ℕ) (error : DecodeError) → read_capture bytes ≡ Err error → short_capture bytes ≡ false
 
 -- where it is accepted: fewer bytes than 4 × HdrLen, which is byte 5
 abbrev pub ShortByItsBytes : Type 0
 ShortByItsBytes =
-    (bytes : List ℕ) (p : Packet) → read_capture bytes ≡ Ok p → (capture_answer bytes).short ≡ ltb (length bytes) (4 * get_or bytes 5 0)
+    (bytes : List ℕ) (p : Packet) → read_capture bytes ≡ Ok p → short_capture bytes ≡ ltb (length bytes) (4 * get_or bytes 5 0)
 
 -- a short capture that is accepted has no payload, and says so
 abbrev pub ShortHasNoPayload : Type 0
 ShortHasNoPayload =
-    (bytes : List ℕ) (p : Packet) → read_capture bytes ≡ Ok p → (capture_answer bytes).short ≡ true
+    (bytes : List ℕ) (p : Packet) → read_capture bytes ≡ Ok p → short_capture bytes ≡ true
     → (p.common.payload_length ≡ 0) × (p.payload ≡ [])
 
 -- WHERE THE READERS PART

@@ -1,7 +1,7 @@
 -- Worked examples of 2026-06: what both readers answer about headers shorter than their own length, and beside that border.
 use Rattle.std.specs.Prelude.{ℕ, ◌*◌, ◌≡◌, cond, List, [], ◌∷◌, ◌++◌, take, replicate}
-use Rattle.errors.specs.Errors.{decoded_of, decoded_number, decoded_value}
-use Rattle.packet.specs.Raw.{read_packet, capture_answer}
+use Rattle.errors.specs.Errors.{decoded_number, decoded_value}
+use Rattle.packet.specs.Raw.{read_packet, capture_answer, short_capture}
 
 -- THE PACKETS
 
@@ -22,13 +22,13 @@ two_hop_fields = (0x00 ∷ 0x00 ∷ 0x20 ∷ 0x00 ∷ []) ++ replicate 32 0
 -- the number and the value that the reader of packets answers, those of the reader of captures, and whether it is short: 1 or 0
 unfoldable pub readings : List ℕ → List ℕ
 readings bytes =
-    let packet = decoded_of (read_packet bytes) in
+    let packet = read_packet bytes in
     let capture = capture_answer bytes in
     decoded_number packet
     ∷ decoded_value packet
-    ∷ decoded_number capture.packet.answer
-    ∷ decoded_value capture.packet.answer
-    ∷ cond capture.short 1 0
+    ∷ decoded_number capture
+    ∷ decoded_value capture
+    ∷ cond (short_capture bytes) 1 0
     ∷ []
 
 -- 36 bytes under factor 9 and 10, 35 under 9; 40 bytes whose path has wrong lengths, under 11; 39 bytes without a path, under 10;

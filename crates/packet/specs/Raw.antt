@@ -3,14 +3,11 @@ use Rattle.std.specs.Prelude.{ℕ, ◌+◌, Bool, false, not, cond, List, [], le
 use Rattle.wire_encoding.specs.Result.{require, ◌>>◌, ◌>>=◌, mapped, or_else}
 use Rattle.errors.specs.declared.packet_error.DecodeError.{DecodeError}
 use Rattle.errors.specs.declared.packet_error.DecodeError.TheVariants.{PacketEmptyOrTruncated, InconsistentPathLength}
-use Rattle.path.specs.Standard.{no_path}
 use Rattle.path.specs.declared.standard.StandardPath.{StandardPath}
-use Rattle.path.specs.Segment.{nowhere}
 use Rattle.path.specs.Dataplane.{read_dataplane}
 use Rattle.path.specs.declared.standard.Part.{Part}
-use Rattle.errors.specs.Errors.{decoded_of}
-use Rattle.packet_common_header.specs.CommonHeader.{zero_common, read_common, header_length}
-use Rattle.packet_address_header.specs.AddressHeader.{zero_address, address_length, read_address}
+use Rattle.packet_common_header.specs.CommonHeader.{read_common, header_length}
+use Rattle.packet_address_header.specs.AddressHeader.{address_length, read_address}
 use Rattle.packet_common_header.specs.declared.CommonHeader.{CommonHeader}
 use Rattle.packet_address_header.specs.declared.AddressHeader.{AddressHeader}
 use Rattle.packet.specs.declared.raw.ScionPacketRaw.{ScionPacketRaw}
@@ -70,25 +67,21 @@ path_part p = record { start = 12 + address_length p.address; len = length p.pat
 unfoldable pub payload_part : Packet → Part
 payload_part p = record { start = 12 + address_length p.address + length p.path_bytes; len = length p.payload }
 
--- every field zero, and no bytes
-abbrev pub zero_packet : Packet
-zero_packet = record { common = zero_common; address = zero_address; path = no_path; path_bytes = []; payload = [] }
+-- its headers, the record of its path, and both parts
+unfoldable pub raw_packet : Packet → ScionPacketRaw
+raw_packet p =
+    record { common = p.common; address = p.address; path = p.path; path_part = path_part p; payload_part = payload_part p }
 
--- as it is handed back; all zero where it is refused
-unfoldable pub packet_answer : Result Packet DecodeError → ScionPacketRaw
-packet_answer r =
-    let p = or_else r zero_packet in
-    record {
-      answer = decoded_of r;
-      common = p.common;
-      address = p.address;
-      path = p.path;
-      path_part = or_else (mapped path_part r) nowhere;
-      payload_part = or_else (mapped payload_part r) nowhere;
-    }
+abbrev pub packet_answer : Result Packet DecodeError → Result ScionPacketRaw DecodeError
+packet_answer r = mapped raw_packet r
 
--- of a capture also whether it is short; no where it is refused
-unfoldable pub capture_answer : List ℕ → CaptureRead
-capture_answer bytes =
-    let r = read_capture bytes in
-    record { packet = packet_answer r; short = or_else (mapped (λ (p : Packet). is_short p.common bytes) r) false }
+-- of a capture also whether it is short
+abbrev pub capture_read : List ℕ → Packet → CaptureRead
+capture_read bytes p = record { packet = raw_packet p; short = is_short p.common bytes }
+
+unfoldable pub capture_answer : List ℕ → Result CaptureRead DecodeError
+capture_answer bytes = mapped (capture_read bytes) (read_capture bytes)
+
+-- whether a capture is short; no where it is refused
+abbrev pub short_capture : List ℕ → Bool
+short_capture bytes = or_else (mapped (λ (read : CaptureRead). read.short) (capture_answer bytes)) false
