@@ -1,13 +1,18 @@
 -- What the calls on packets hand to C, and what they take from it, field by field.
-use Rattle.std.specs.Prelude.{ℕ, eqb, cond}
+use Rattle.std.specs.Prelude.{ℕ, false, eqb, cond, Result}
+use Rattle.wire_encoding.specs.Result.{mapped, or_else}
+use Rattle.path.specs.Standard.{no_path}
+use Rattle.path.specs.Segment.{nowhere}
+use Rattle.packet_common_header.specs.CommonHeader.{zero_common}
 use Rattle.address.specs.declared.host.HostAddr.TheVariants.{V4, V6, Svc}
-use Rattle.packet_address_header.specs.AddressHeader.{kind_of, host_of_kind}
+use Rattle.packet_address_header.specs.AddressHeader.{kind_of, host_of_kind, zero_address}
 use Rattle.errors.specs.Errors.{encoded_number}
 use Rattle.packet_address_header.specs.declared.MaybeEncoded.{MaybeEncoded}
 use Rattle.packet_address_header.specs.declared.MaybeEncoded.TheVariants as host
 use Rattle.packet_address_header.specs.declared.HostAddress.{HostAddress}
 use Rattle.packet_address_header.specs.declared.AddressHeader.{AddressHeader}
-use Rattle.errors.specs.declared.packet_error.Encoded.{Encoded}
+use Rattle.errors.specs.declared.packet_error.DecodeError.{DecodeError}
+use Rattle.errors.specs.declared.packet_error.EncodeError.{EncodeError}
 use Rattle.packet.specs.declared.raw.ScionPacketRaw.{ScionPacketRaw}
 use Rattle.packet.specs.declared.raw.CaptureRead.{CaptureRead}
 use Rattle.packet_headers.specs.declared.ScionHeaders as library
@@ -50,11 +55,17 @@ address_in destination_ia destination source_ia source =
 
 -- READING
 
--- a packet: every value of its headers, the record of its path, and where path and payload lie; the hosts carry their kinds
-unfoldable pub packet_out : ScionPacketRaw → ScionPacket
-packet_out p =
+-- every field zero, and no bytes
+unfoldable pub no_packet : ScionPacketRaw
+no_packet = record { common = zero_common; address = zero_address; path = no_path; path_part = nowhere; payload_part = nowhere }
+
+-- a packet: every value of its headers, the record of its path, and where path and payload lie; the hosts carry their kinds. All zero but
+-- the answer where it is refused
+unfoldable pub packet_out : Result ScionPacketRaw DecodeError → ScionPacket
+packet_out read =
+    let p = or_else read no_packet in
     record {
-      answer = decoded_out p.answer;
+      answer = decoded_out read;
       path = p.path;
       version = p.common.version;
       traffic_class = p.common.traffic_class;
@@ -72,9 +83,13 @@ packet_out p =
       payload_part = p.payload_part;
     }
 
--- a capture: its packet, and whether it is short
-unfoldable pub capture_out : CaptureRead → ScionCapture
-capture_out c = record { packet = packet_out c.packet; is_short = c.short }
+-- a capture: its packet, and whether it is short; no where it is refused
+unfoldable pub capture_out : Result CaptureRead DecodeError → ScionCapture
+capture_out read =
+    record {
+      packet = packet_out (mapped (λ (c : CaptureRead). c.packet) read);
+      is_short = or_else (mapped (λ (c : CaptureRead). c.short) read) false;
+    }
 
 -- WRITING
 
@@ -111,5 +126,5 @@ headers_out h =
     }
 
 -- the answer of a writer: 3 comes with the factor, which is 0
-unfoldable pub encoded_out : Encoded → ScionAnswer
+unfoldable pub encoded_out : {A : Type 0} → Result A EncodeError → ScionAnswer
 encoded_out e = record { number = encoded_number e; value = 0 }

@@ -7,9 +7,10 @@ ghost use Rattle.scion_packets.specs.Packets as spec;
 use address::host::HostAddr;
 use address::ia::IsdAsn;
 use address::service::ServiceAddr;
-use errors::packet_error::Encoded;
+use errors::packet_error::{DecodeError, EncodeError};
 use packet::raw::ScionPacketRaw;
 use packet_address_header::{AddressHeader, HostAddress, MaybeEncoded};
+use packet_common_header::CommonHeader;
 use packet_headers::ScionHeaders as Headers;
 use path::standard::{Part, StandardPath};
 use scion_paths::{ScionAnswer, decoded_out};
@@ -78,64 +79,51 @@ fn service_of(host: MaybeEncoded) -> u16
     ensures { result ≡ spec.service_of host }
 {
     match host {
-        MaybeEncoded::Decoded(named) => match named {
-            HostAddr::V4 => 0,
-            HostAddr::V6 => 0,
-            HostAddr::Svc(service) => service.0,
-        },
-        MaybeEncoded::Encoded(_) => 0,
+        MaybeEncoded::Decoded(HostAddr::Svc(service)) => service.0,
+        _ => 0,
     }
 }
 
 // A host that was read.
-pub fn host_out(address: HostAddress) -> ScionHost
-    ensures { result ≡ spec.host_out address }
-{
-    let host = address.host;
-    let bytes = address.bytes;
-    ScionHost {
-        kind: host.kind(),
-        service: service_of(host),
-        bytes,
-        padding: address.padding,
+impl From<HostAddress> for ScionHost {
+    ghost from_gives = { λ host out. out ≡ spec.host_out host };
+
+    #[tactic(auto, unfolding(crate::specs::Packets::host_out))]
+    fn from(address: HostAddress) -> ScionHost {
+        let bytes = address.bytes;
+        ScionHost {
+            kind: address.kind(),
+            service: service_of(address.host),
+            bytes,
+            padding: address.padding,
+        }
     }
 }
 
 // A host to be written, by its kind; only a service has a padding.
-pub fn host_in(given: ScionHost) -> HostAddress
-    ensures { result ≡ spec.host_in given }
-{
-    let kind = given.kind;
-    let bytes = given.bytes;
-    if kind == 4 {
-        return HostAddress {
-            host: MaybeEncoded::Decoded(HostAddr::Svc(ServiceAddr(given.service))),
-            bytes,
-            padding: given.padding,
+impl From<ScionHost> for HostAddress {
+    ghost from_gives = { λ given host. host ≡ spec.host_in given };
+
+    #[tactic(auto, unfolding(crate::specs::Packets::host_in, packet_address_header::specs::AddressHeader::host_of_kind))]
+    fn from(given: ScionHost) -> HostAddress {
+        let bytes = given.bytes;
+        let host = match given.kind {
+            0 => MaybeEncoded::Decoded(HostAddr::V4),
+            3 => MaybeEncoded::Decoded(HostAddr::V6),
+            4 => MaybeEncoded::Decoded(HostAddr::Svc(ServiceAddr(given.service))),
+            kind => MaybeEncoded::Encoded(kind),
         };
-    }
-    if kind == 0 {
-        return HostAddress {
-            host: MaybeEncoded::Decoded(HostAddr::V4),
+        let padding = if given.kind == 4 { given.padding } else { 0 };
+        HostAddress {
+            host,
             bytes,
-            padding: 0,
-        };
-    }
-    if kind == 3 {
-        return HostAddress {
-            host: MaybeEncoded::Decoded(HostAddr::V6),
-            bytes,
-            padding: 0,
-        };
-    }
-    HostAddress {
-        host: MaybeEncoded::Encoded(kind),
-        bytes,
-        padding: 0,
+            padding,
+        }
     }
 }
 
 // The address header of both ends.
+#[tactic(auto, unfolding(crate::specs::Packets::address_in))]
 pub fn address_in(
     destination_ia: u64,
     destination: ScionHost,
@@ -144,47 +132,57 @@ pub fn address_in(
 ) -> AddressHeader
     ensures { result ≡ spec.address_in destination_ia destination source_ia source }
 {
-    let to = host_in(destination);
-    let from = host_in(source);
     AddressHeader {
         destination_ia: IsdAsn(destination_ia),
         source_ia: IsdAsn(source_ia),
-        destination: to,
-        source: from,
+        destination: HostAddress::from(destination),
+        source: HostAddress::from(source),
     }
 }
 
-// A packet that was split.
-pub fn packet_out(packet: ScionPacketRaw) -> ScionPacket
-    ensures { result ≡ spec.packet_out packet }
+// What stands in the place of a packet that was refused.
+#[tactic(auto, unfolding(crate::specs::Packets::no_packet))]
+fn no_packet() -> ScionPacketRaw
+    ensures { result ≡ spec.no_packet }
 {
-    let answer = packet.answer;
-    let common = packet.common;
-    let address = packet.address;
-    let destination_ia = address.destination_ia;
-    let source_ia = address.source_ia;
-    let to = address.destination;
-    let from = address.source;
-    let path = packet.path;
-    let path_part = packet.path_part;
-    let payload_part = packet.payload_part;
-    ScionPacket {
-        answer: decoded_out(answer),
-        path,
-        version: common.version,
-        traffic_class: common.traffic_class,
-        next_header: common.next_header,
-        header_length_factor: common.header_length_factor,
-        path_type: common.path_type,
-        payload_length: common.payload_length,
-        reserved: common.reserved,
-        flow_id: common.flow_id,
-        destination_ia: destination_ia.0,
-        source_ia: source_ia.0,
-        destination: host_out(to),
-        source: host_out(from),
-        path_part,
-        payload_part,
+    let nowhere = Part { start: 0, len: 0 };
+    ScionPacketRaw {
+        common: CommonHeader::zero(),
+        address: AddressHeader::zero(),
+        path: StandardPath::zero(),
+        path_part: nowhere,
+        payload_part: nowhere,
+    }
+}
+
+// A packet that was split; all zero but the answer where it was refused.
+impl From<Result<ScionPacketRaw, DecodeError>> for ScionPacket {
+    ghost from_gives = { λ read out. out ≡ spec.packet_out read };
+
+    #[tactic(auto, unfolding(crate::specs::Packets::packet_out))]
+    fn from(read: Result<ScionPacketRaw, DecodeError>) -> ScionPacket {
+        let answer = decoded_out(&read);
+        let packet = read.unwrap_or(no_packet());
+        let common = packet.common;
+        let address = packet.address;
+        ScionPacket {
+            answer,
+            path: packet.path,
+            version: common.version,
+            traffic_class: common.traffic_class,
+            next_header: common.next_header,
+            header_length_factor: common.header_length_factor,
+            path_type: common.path_type,
+            payload_length: common.payload_length,
+            reserved: common.reserved,
+            flow_id: common.flow_id,
+            destination_ia: address.destination_ia.0,
+            source_ia: address.source_ia.0,
+            destination: ScionHost::from(address.destination),
+            source: ScionHost::from(address.source),
+            path_part: packet.path_part,
+            payload_part: packet.payload_part,
+        }
     }
 }
 
@@ -200,62 +198,62 @@ pub fn capture_out(packet: ScionPacket, len: usize) -> ScionCapture
 }
 
 // The headers as the library takes them.
-pub fn headers_in(given: ScionHeaders) -> Headers
-    ensures { result ≡ spec.headers_in given }
-{
-    let destination = given.destination;
-    let source = given.source;
-    let address = address_in(given.destination_ia, destination, given.source_ia, source);
-    Headers {
-        version: given.version,
-        traffic_class: given.traffic_class,
-        flow_id: given.flow_id,
-        next_header: given.next_header,
-        header_length_factor: given.header_length_factor,
-        payload_length: given.payload_length,
-        path_type: given.path_type,
-        reserved: given.reserved,
-        address,
+impl From<ScionHeaders> for Headers {
+    ghost from_gives = { λ given headers. headers ≡ spec.headers_in given };
+
+    #[tactic(auto, unfolding(crate::specs::Packets::headers_in))]
+    fn from(given: ScionHeaders) -> Headers {
+        let destination = given.destination;
+        let source = given.source;
+        let address = address_in(given.destination_ia, destination, given.source_ia, source);
+        Headers {
+            version: given.version,
+            traffic_class: given.traffic_class,
+            flow_id: given.flow_id,
+            next_header: given.next_header,
+            header_length_factor: given.header_length_factor,
+            payload_length: given.payload_length,
+            path_type: given.path_type,
+            reserved: given.reserved,
+            address,
+        }
     }
 }
 
 // The headers as C takes them.
-pub fn headers_out(made: Headers) -> ScionHeaders
-    ensures { result ≡ spec.headers_out made }
-{
-    let address = made.address;
-    let destination_ia = address.destination_ia;
-    let source_ia = address.source_ia;
-    let to = address.destination;
-    let from = address.source;
-    ScionHeaders {
-        version: made.version,
-        traffic_class: made.traffic_class,
-        next_header: made.next_header,
-        path_type: made.path_type,
-        reserved: made.reserved,
-        flow_id: made.flow_id,
-        header_length_factor: made.header_length_factor,
-        payload_length: made.payload_length,
-        destination_ia: destination_ia.0,
-        source_ia: source_ia.0,
-        destination: host_out(to),
-        source: host_out(from),
+impl From<Headers> for ScionHeaders {
+    ghost from_gives = { λ made out. out ≡ spec.headers_out made };
+
+    #[tactic(auto, unfolding(crate::specs::Packets::headers_out))]
+    fn from(made: Headers) -> ScionHeaders {
+        let address = made.address;
+        ScionHeaders {
+            version: made.version,
+            traffic_class: made.traffic_class,
+            next_header: made.next_header,
+            path_type: made.path_type,
+            reserved: made.reserved,
+            flow_id: made.flow_id,
+            header_length_factor: made.header_length_factor,
+            payload_length: made.payload_length,
+            destination_ia: address.destination_ia.0,
+            source_ia: address.source_ia.0,
+            destination: ScionHost::from(address.destination),
+            source: ScionHost::from(address.source),
+        }
     }
 }
 
 // The answer of a writer.
-pub fn encoded_out(answer: Encoded) -> ScionAnswer
-    ensures { result ≡ spec.encoded_out answer }
+#[tactic(auto, unfolding(crate::specs::Packets::encoded_out))]
+pub fn encoded_out(written: &Result<(), EncodeError>) -> ScionAnswer
+    ensures { result ≡ spec.encoded_out written.now }
 {
-    match answer {
-        Encoded::Done => ScionAnswer {
-            number: 0,
+    match written {
+        Ok(_) => ScionAnswer::ACCEPTED,
+        Err(error) => ScionAnswer {
+            number: error.number(),
             value: 0,
         },
-        Encoded::Refused(error) => {
-            let number = error.number();
-            ScionAnswer { number, value: 0 }
-        }
     }
 }

@@ -1,19 +1,19 @@
--- What the calls on paths hand to C: each answer of the library, field by field.
-use Rattle.std.specs.Prelude.{ℕ, List}
+-- What the calls on paths hand to C: each answer of the library, field by field; zeros where a call is refused.
+use Rattle.std.specs.Prelude.{ℕ, ℤ, pos, false, List, None, Result}
+use Rattle.std.specs.Option.{unwrap_or}
 use Rattle.wire_encoding.specs.Result.{or_else}
-use Rattle.path_fields.specs.Fields.{new_info_field, zero_info_field, new_hop_field, zero_hop_field}
-use Rattle.path_fields.specs.declared.Interface.{Interface}
-use Rattle.path_fields.specs.declared.Interface.TheVariants.{None, Id}
-use Rattle.path.specs.Dataplane.{part_in}
+use Rattle.errors.specs.declared.packet_error.DecodeError.{DecodeError}
+use Rattle.errors.specs.declared.path_error.PathError.{PathError}
+use Rattle.path_fields.specs.Fields.{Interface, new_info_field, zero_info_field, new_hop_field, zero_hop_field}
+use Rattle.path.specs.Standard.{no_path}
+use Rattle.path.specs.Segment.{nowhere, no_segment}
+use Rattle.path.specs.Dataplane.{unread, part_in}
+use Rattle.path.specs.declared.standard.Part.{Part}
+use Rattle.path.specs.declared.standard.Found.{Found}
+use Rattle.path.specs.declared.standard.StandardPath.{StandardPath}
 use Rattle.path.specs.declared.standard.segment.Segment.{Segment}
-use Rattle.path.specs.declared.dataplane.DataplaneRead.{DataplaneRead}
-use Rattle.path.specs.declared.dataplane.PathAnswer.{PathAnswer}
-use Rattle.path.specs.declared.dataplane.Located.{Located}
-use Rattle.path_expiry.specs.declared.Expiry.{Expiry}
-use Rattle.path.specs.declared.standard.time_left.TimeLeft.{TimeLeft}
-use Rattle.path_interfaces.specs.declared.InterfaceCount.{InterfaceCount}
+use Rattle.path.specs.declared.dataplane.Extent.{Extent}
 use Rattle.path_interfaces.specs.declared.InterfaceAt.{InterfaceAt}
-use Rattle.path_reverse.specs.declared.WrittenPath.{WrittenPath}
 use Rattle.path_moves.specs.declared.WalkAnswer.{WalkAnswer}
 use Rattle.scion_paths.specs.Answer.{answer_out, decoded_out}
 use Rattle.scion_paths.specs.declared.ScionPathAnswer.{ScionPathAnswer}
@@ -29,25 +29,34 @@ use Rattle.scion_paths.specs.declared.ScionInterface.{ScionInterface}
 use Rattle.scion_paths.specs.declared.ScionWalk.{ScionWalk}
 
 -- alert flags and moves: the answer, and the record of the path
-unfoldable pub path_answer_out : PathAnswer → ScionPathAnswer
-path_answer_out a = record { answer = answer_out a.answer; path = a.path }
+unfoldable pub path_answer_out : Result StandardPath PathError → ScionPathAnswer
+path_answer_out left = record { answer = answer_out left; path = or_else left no_path }
 
 -- reading: also how many of the bytes are the path's
-unfoldable pub path_read_out : DataplaneRead → ScionPathRead
-path_read_out read = record { answer = decoded_out read.answer; path = read.path; length = read.length }
+unfoldable pub path_read_out : Result Extent DecodeError → ScionPathRead
+path_read_out read =
+    let extent = or_else read (unread 0) in
+    record { answer = decoded_out read; path = extent.path; length = extent.length }
 
 -- copies and reversals: also how many bytes of the destination are the path's
-unfoldable pub written_path_out : WrittenPath → ScionWrittenPath
-written_path_out written = record { answer = answer_out written.answer; path = written.path; length = written.length }
+unfoldable pub written_path_out : Result Extent PathError → ScionWrittenPath
+written_path_out written =
+    let extent = or_else written (unread 0) in
+    record { answer = answer_out written; path = extent.path; length = extent.length }
+
+-- what is found of a path, beside its record: zeros where it is refused, `zero` for the value
+abbrev pub found_out : {A : Type 0} → A → Result (Found A) PathError → Found A
+found_out zero read = or_else read (record { path = no_path; value = zero })
 
 -- an info field: where it starts, and the values of its part of 8 bytes; the part of a refusal is empty, and its values are zero
-unfoldable pub info_field_out : List ℕ → Located → ScionInfoField
-info_field_out bytes located =
-    let field = or_else (new_info_field (part_in bytes located.part)) zero_info_field in
+unfoldable pub info_field_out : List ℕ → Result (Found Part) PathError → ScionInfoField
+info_field_out bytes read =
+    let found = found_out nowhere read in
+    let field = or_else (new_info_field (part_in bytes found.value)) zero_info_field in
     record {
-      answer = answer_out located.answer;
-      path = located.path;
-      start = located.part.start;
+      answer = answer_out read;
+      path = found.path;
+      start = found.value.start;
       flags = field.flags;
       reserved = field.reserved;
       accumulator = field.accumulator;
@@ -55,13 +64,14 @@ info_field_out bytes located =
     }
 
 -- a hop field, likewise, by its part of 12 bytes
-unfoldable pub hop_field_out : List ℕ → Located → ScionHopField
-hop_field_out bytes located =
-    let field = or_else (new_hop_field (part_in bytes located.part)) zero_hop_field in
+unfoldable pub hop_field_out : List ℕ → Result (Found Part) PathError → ScionHopField
+hop_field_out bytes read =
+    let found = found_out nowhere read in
+    let field = or_else (new_hop_field (part_in bytes found.value)) zero_hop_field in
     record {
-      answer = answer_out located.answer;
-      path = located.path;
-      start = located.part.start;
+      answer = answer_out read;
+      path = found.path;
+      start = found.value.start;
       flags = field.flags;
       exp_time = field.exp_time;
       cons_ingress = field.cons_ingress;
@@ -70,43 +80,44 @@ hop_field_out bytes located =
     }
 
 -- a segment: where its info field and its hop fields lie
-unfoldable pub segment_out : Segment → ScionSegment
-segment_out segment =
+unfoldable pub segment_out : Result (Found Segment) PathError → ScionSegment
+segment_out read =
+    let found = found_out no_segment read in
     record {
-      answer = answer_out segment.answer;
-      path = segment.path;
-      info_field = segment.info_field;
-      hop_fields = segment.hop_fields;
+      answer = answer_out read;
+      path = found.path;
+      info_field = found.value.info_field;
+      hop_fields = found.value.hop_fields;
     }
 
 -- an expiry, and the time left, in ms
-unfoldable pub expiry_out : Expiry → ScionExpiry
-expiry_out expiry = record { answer = answer_out expiry.answer; path = expiry.path; ms = expiry.ms }
+unfoldable pub expiry_out : Result (Found ℕ) PathError → ScionExpiry
+expiry_out read = let found = found_out 0 read in record { answer = answer_out read; path = found.path; ms = found.value }
 
-unfoldable pub time_left_out : TimeLeft → ScionTimeLeft
-time_left_out left = record { answer = answer_out left.answer; path = left.path; ms = left.ms }
+unfoldable pub time_left_out : Result (Found ℤ) PathError → ScionTimeLeft
+time_left_out read = let found = found_out (pos 0) read in record { answer = answer_out read; path = found.path; ms = found.value }
 
 -- the number of interfaces
-unfoldable pub interface_count_out : InterfaceCount → ScionInterfaceCount
-interface_count_out interfaces =
-    record { answer = answer_out interfaces.answer; path = interfaces.path; count = interfaces.count }
+unfoldable pub interface_count_out : Result (Found ℕ) PathError → ScionInterfaceCount
+interface_count_out read = let found = found_out 0 read in record { answer = answer_out read; path = found.path; count = found.value }
 
 -- an interface's number on the wire: 0 means none
 abbrev pub interface_number : Interface → ℕ
-interface_number None = 0
-interface_number (Id number) = number
+interface_number interface = unwrap_or interface 0
 
 -- an interface, and the hop field that it belongs to
-unfoldable pub interface_out : InterfaceAt → ScionInterface
-interface_out found =
+unfoldable pub interface_out : Result (Found InterfaceAt) PathError → ScionInterface
+interface_out read =
+    let found = found_out (record { hop_field = 0; interface = None }) read in
     record {
-      answer = answer_out found.answer;
+      answer = answer_out read;
       path = found.path;
-      hop_field = found.hop_field;
-      id = interface_number found.interface;
+      hop_field = found.value.hop_field;
+      id = interface_number found.value.interface;
     }
 
 -- a walk: how many moves it made, and whether it stands at the last hop field
-unfoldable pub walk_out : WalkAnswer → ScionWalk
-walk_out walk =
-    record { answer = answer_out walk.answer; path = walk.path; moves = walk.moves; arrived = walk.arrived }
+unfoldable pub walk_out : Result WalkAnswer PathError → ScionWalk
+walk_out walked =
+    let walk = or_else walked (record { path = no_path; moves = 0; arrived = false }) in
+    record { answer = answer_out walked; path = walk.path; moves = walk.moves; arrived = walk.arrived }

@@ -2,21 +2,19 @@
 #![tactic(auto)]
 
 ghost use Rattle.std.specs.Prelude.{◌≡◌};
+ghost use Rattle.errors.specs.Errors.{path_number, path_value};
+ghost use Rattle.path.specs.Dataplane.{unread};
 ghost use Rattle.scion_paths.specs.Answer.{answer_out, decoded_out};
 ghost use Rattle.scion_paths.specs.Paths as spec;
 
-use errors::packet_error::Decoded;
-use errors::path_error::{Answer, PathError};
-use path::dataplane::{DataplaneRead, Located, PathAnswer};
+use errors::packet_error::DecodeError;
+use errors::path_error::PathError;
+use path::dataplane::Extent;
 use path::standard::segment::Segment;
-use path::standard::time_left::TimeLeft;
-use path::standard::{Part, StandardPath};
-use path_expiry::Expiry;
-use path_fields::{HopField, InfoField, Interface};
-use path_interfaces::{InterfaceAt, InterfaceCount};
+use path::standard::{Found, Part, StandardPath};
+use path_fields::{HopField, InfoField};
+use path_interfaces::InterfaceAt;
 use path_moves::WalkAnswer;
-use path_reverse::WrittenPath;
-use wire_encoding::read::part_of;
 
 // 0 where the call was carried out, else the number of the refusal; the value is 0 unless the number is 2 or 3.
 #[repr(C)]
@@ -26,30 +24,43 @@ pub struct ScionAnswer {
     pub value: u8,
 }
 
-// The answer of a call.
-pub fn answer_out(answer: Answer) -> ScionAnswer
-    ensures { result ≡ answer_out answer }
-{
-    match answer {
-        Answer::Accepted => ScionAnswer {
-            number: 0,
-            value: 0,
-        },
-        Answer::Refused(error) => {
-            let number = error.number();
-            let value = error.value();
-            ScionAnswer { number, value }
+impl ScionAnswer {
+    pub const ACCEPTED: ScionAnswer = ScionAnswer {
+        number: 0,
+        value: 0,
+    };
+}
+
+impl From<PathError> for ScionAnswer {
+    ghost from_gives = { λ error answer. answer ≡ record { number = path_number error; value = path_value error } };
+
+    fn from(error: PathError) -> ScionAnswer {
+        ScionAnswer {
+            number: error.number(),
+            value: error.value(),
         }
     }
 }
 
-// The answer of a reader.
-pub fn decoded_out(answer: Decoded) -> ScionAnswer
-    ensures { result ≡ decoded_out answer }
+// The answer of a call.
+#[tactic(auto, unfolding(crate::specs::Answer::answer_out))]
+pub fn answer_out<T>(read: &Result<T, PathError>) -> ScionAnswer
+    ensures { result ≡ answer_out read.now }
 {
-    match answer {
-        Decoded::Accepted => answer_out(Answer::Accepted),
-        Decoded::Refused(error) => answer_out(Answer::Refused(PathError::Decode(error))),
+    match read {
+        Ok(_) => ScionAnswer::ACCEPTED,
+        Err(error) => ScionAnswer::from(*error),
+    }
+}
+
+// The answer of a reader.
+#[tactic(auto, unfolding(crate::specs::Answer::decoded_out))]
+pub fn decoded_out<T>(read: &Result<T, DecodeError>) -> ScionAnswer
+    ensures { result ≡ decoded_out read.now }
+{
+    match read {
+        Ok(_) => ScionAnswer::ACCEPTED,
+        Err(error) => ScionAnswer::from(PathError::Decode(*error)),
     }
 }
 
@@ -163,56 +174,191 @@ pub struct ScionWalk {
     pub arrived: bool,
 }
 
-// The answer of a call, and the record of the path as the call leaves it.
-pub fn path_answer_out(given: PathAnswer) -> ScionPathAnswer
-    ensures { result ≡ spec.path_answer_out given }
+// What is found of a path; the record is all zero, and the value is `zero`, where it was refused.
+fn found_out<T: Copy + Drop>(read: Result<Found<T>, PathError>, zero: T) -> Found<T>
+    ensures { result ≡ spec.found_out zero read }
 {
-    let answer = given.answer;
-    let path = given.path;
-    ScionPathAnswer {
-        answer: answer_out(answer),
-        path,
+    read.unwrap_or(Found {
+        path: StandardPath::zero(),
+        value: zero,
+    })
+}
+
+// The path of a call that hands its record over.
+impl From<Result<StandardPath, PathError>> for ScionPathAnswer {
+    ghost from_gives = { λ left out. out ≡ spec.path_answer_out left };
+
+    #[tactic(auto, unfolding(crate::specs::Paths::path_answer_out))]
+    fn from(left: Result<StandardPath, PathError>) -> ScionPathAnswer {
+        ScionPathAnswer {
+            answer: answer_out(&left),
+            path: left.unwrap_or(StandardPath::zero()),
+        }
     }
 }
 
-// A path that was read, and how many of the bytes are the path's.
-pub fn path_read_out(read: DataplaneRead) -> ScionPathRead
-    ensures { result ≡ spec.path_read_out read }
-{
-    let answer = read.answer;
-    let path = read.path;
-    ScionPathRead {
-        answer: decoded_out(answer),
-        path,
-        length: read.length,
+impl From<Result<Extent, DecodeError>> for ScionPathRead {
+    ghost from_gives = { λ read out. out ≡ spec.path_read_out read };
+
+    #[tactic(auto, unfolding(crate::specs::Paths::path_read_out))]
+    fn from(read: Result<Extent, DecodeError>) -> ScionPathRead {
+        let answer = decoded_out(&read);
+        let extent = read.unwrap_or(no_extent());
+        ScionPathRead {
+            answer,
+            path: extent.path,
+            length: extent.length,
+        }
     }
 }
 
-// A path that was written, and how many bytes of the destination it is.
-pub fn written_path_out(written: WrittenPath) -> ScionWrittenPath
-    ensures { result ≡ spec.written_path_out written }
-{
-    let answer = written.answer;
-    let path = written.path;
-    ScionWrittenPath {
-        answer: answer_out(answer),
-        path,
-        length: written.length,
+impl From<Result<Extent, PathError>> for ScionWrittenPath {
+    ghost from_gives = { λ written out. out ≡ spec.written_path_out written };
+
+    #[tactic(auto, unfolding(crate::specs::Paths::written_path_out))]
+    fn from(written: Result<Extent, PathError>) -> ScionWrittenPath {
+        let answer = answer_out(&written);
+        let front = written.unwrap_or(no_extent());
+        ScionWrittenPath {
+            answer,
+            path: front.path,
+            length: front.length,
+        }
     }
 }
 
-// An info field and where it starts.
-pub fn info_field_out(bytes: &[u8], located: Located) -> ScionInfoField
-    ensures { result ≡ spec.info_field_out bytes.now located }
+impl From<Result<Found<Segment>, PathError>> for ScionSegment {
+    ghost from_gives = { λ read out. out ≡ spec.segment_out read };
+
+    #[tactic(auto, unfolding(crate::specs::Paths::segment_out))]
+    fn from(read: Result<Found<Segment>, PathError>) -> ScionSegment {
+        let answer = answer_out(&read);
+        let nowhere = Part { start: 0, len: 0 };
+        let found = found_out(
+            read,
+            Segment {
+                info_field: nowhere,
+                hop_fields: nowhere,
+            },
+        );
+        ScionSegment {
+            answer,
+            path: found.path,
+            info_field: found.value.info_field,
+            hop_fields: found.value.hop_fields,
+        }
+    }
+}
+
+impl From<Result<Found<u64>, PathError>> for ScionExpiry {
+    ghost from_gives = { λ read out. out ≡ spec.expiry_out read };
+
+    #[tactic(auto, unfolding(crate::specs::Paths::expiry_out))]
+    fn from(read: Result<Found<u64>, PathError>) -> ScionExpiry {
+        let answer = answer_out(&read);
+        let found = found_out(read, 0);
+        ScionExpiry {
+            answer,
+            path: found.path,
+            ms: found.value,
+        }
+    }
+}
+
+impl From<Result<Found<i64>, PathError>> for ScionTimeLeft {
+    ghost from_gives = { λ read out. out ≡ spec.time_left_out read };
+
+    #[tactic(auto, unfolding(crate::specs::Paths::time_left_out))]
+    fn from(read: Result<Found<i64>, PathError>) -> ScionTimeLeft {
+        let answer = answer_out(&read);
+        let found = found_out(read, 0);
+        ScionTimeLeft {
+            answer,
+            path: found.path,
+            ms: found.value,
+        }
+    }
+}
+
+impl From<Result<Found<usize>, PathError>> for ScionInterfaceCount {
+    ghost from_gives = { λ read out. out ≡ spec.interface_count_out read };
+
+    #[tactic(auto, unfolding(crate::specs::Paths::interface_count_out))]
+    fn from(read: Result<Found<usize>, PathError>) -> ScionInterfaceCount {
+        let answer = answer_out(&read);
+        let found = found_out(read, 0);
+        ScionInterfaceCount {
+            answer,
+            path: found.path,
+            count: found.value,
+        }
+    }
+}
+
+impl From<Result<Found<InterfaceAt>, PathError>> for ScionInterface {
+    ghost from_gives = { λ read out. out ≡ spec.interface_out read };
+
+    #[tactic(auto, unfolding(crate::specs::Paths::interface_out))]
+    fn from(read: Result<Found<InterfaceAt>, PathError>) -> ScionInterface {
+        let answer = answer_out(&read);
+        let found = found_out(
+            read,
+            InterfaceAt {
+                hop_field: 0,
+                interface: None,
+            },
+        );
+        ScionInterface {
+            answer,
+            path: found.path,
+            hop_field: found.value.hop_field,
+            id: found.value.interface.unwrap_or(0),
+        }
+    }
+}
+
+impl From<Result<WalkAnswer, PathError>> for ScionWalk {
+    ghost from_gives = { λ walked out. out ≡ spec.walk_out walked };
+
+    #[tactic(auto, unfolding(crate::specs::Paths::walk_out))]
+    fn from(walked: Result<WalkAnswer, PathError>) -> ScionWalk {
+        let answer = answer_out(&walked);
+        let walk = walked.unwrap_or(WalkAnswer {
+            path: StandardPath::zero(),
+            moves: 0,
+            arrived: false,
+        });
+        ScionWalk {
+            answer,
+            path: walk.path,
+            moves: walk.moves,
+            arrived: walk.arrived,
+        }
+    }
+}
+
+// What stands in the place of a path that was refused.
+fn no_extent() -> Extent
+    ensures { result ≡ unread 0 }
 {
-    let answer = located.answer;
-    let path = located.path;
-    let part = located.part;
-    let field = InfoField::new(part_of(bytes, part.start, part.len)).field;
+    Extent {
+        path: StandardPath::zero(),
+        length: 0,
+    }
+}
+
+// An info field that was found among `bytes`, and where it starts.
+#[tactic(auto, unfolding(crate::specs::Paths::info_field_out, path_fields::specs::Fields::zero_info_field))]
+pub fn info_field_out(bytes: &[u8], read: Result<Found<Part>, PathError>) -> ScionInfoField
+    ensures { result ≡ spec.info_field_out bytes.now read }
+{
+    let answer = answer_out(&read);
+    let found = found_out(read, Part { start: 0, len: 0 });
+    let field = InfoField::new(found.value.of(bytes)).unwrap_or(InfoField::ZERO);
     ScionInfoField {
-        answer: answer_out(answer),
-        path,
-        start: part.start,
+        answer,
+        path: found.path,
+        start: found.value.start,
         flags: field.flags,
         reserved: field.reserved,
         accumulator: field.accumulator,
@@ -220,117 +366,23 @@ pub fn info_field_out(bytes: &[u8], located: Located) -> ScionInfoField
     }
 }
 
-// A hop field and where it starts.
-pub fn hop_field_out(bytes: &[u8], located: Located) -> ScionHopField
-    ensures { result ≡ spec.hop_field_out bytes.now located }
+// A hop field that was found among `bytes`, and where it starts.
+#[tactic(auto, unfolding(crate::specs::Paths::hop_field_out, path_fields::specs::Fields::zero_hop_field))]
+pub fn hop_field_out(bytes: &[u8], read: Result<Found<Part>, PathError>) -> ScionHopField
+    ensures { result ≡ spec.hop_field_out bytes.now read }
 {
-    let answer = located.answer;
-    let path = located.path;
-    let part = located.part;
-    let field = HopField::new(part_of(bytes, part.start, part.len)).field;
+    let answer = answer_out(&read);
+    let found = found_out(read, Part { start: 0, len: 0 });
+    let field = HopField::new(found.value.of(bytes)).unwrap_or(HopField::ZERO);
     let mac = field.mac;
     ScionHopField {
-        answer: answer_out(answer),
-        path,
-        start: part.start,
+        answer,
+        path: found.path,
+        start: found.value.start,
         flags: field.flags,
         exp_time: field.exp_time,
         cons_ingress: field.cons_ingress,
         cons_egress: field.cons_egress,
         mac,
-    }
-}
-
-// A segment: where its info field and its hop fields lie.
-pub fn segment_out(segment: Segment) -> ScionSegment
-    ensures { result ≡ spec.segment_out segment }
-{
-    let answer = segment.answer;
-    let path = segment.path;
-    let info_field = segment.info_field;
-    let hop_fields = segment.hop_fields;
-    ScionSegment {
-        answer: answer_out(answer),
-        path,
-        info_field,
-        hop_fields,
-    }
-}
-
-// An expiry.
-pub fn expiry_out(expiry: Expiry) -> ScionExpiry
-    ensures { result ≡ spec.expiry_out expiry }
-{
-    let answer = expiry.answer;
-    let path = expiry.path;
-    ScionExpiry {
-        answer: answer_out(answer),
-        path,
-        ms: expiry.ms,
-    }
-}
-
-// The time left.
-pub fn time_left_out(left: TimeLeft) -> ScionTimeLeft
-    ensures { result ≡ spec.time_left_out left }
-{
-    let answer = left.answer;
-    let path = left.path;
-    ScionTimeLeft {
-        answer: answer_out(answer),
-        path,
-        ms: left.ms,
-    }
-}
-
-// The number of interfaces.
-pub fn interface_count_out(interfaces: InterfaceCount) -> ScionInterfaceCount
-    ensures { result ≡ spec.interface_count_out interfaces }
-{
-    let answer = interfaces.answer;
-    let path = interfaces.path;
-    ScionInterfaceCount {
-        answer: answer_out(answer),
-        path,
-        count: interfaces.count,
-    }
-}
-
-// The number of an interface on the wire.
-fn interface_number(interface: Interface) -> u16
-    ensures { result ≡ spec.interface_number interface }
-{
-    match interface {
-        Interface::None => 0,
-        Interface::Id(number) => number,
-    }
-}
-
-// An interface, and the hop field that it belongs to.
-pub fn interface_out(found: InterfaceAt) -> ScionInterface
-    ensures { result ≡ spec.interface_out found }
-{
-    let answer = found.answer;
-    let path = found.path;
-    let interface = found.interface;
-    ScionInterface {
-        answer: answer_out(answer),
-        path,
-        hop_field: found.hop_field,
-        id: interface_number(interface),
-    }
-}
-
-// How many moves a walk made, and whether it stands at the last hop field.
-pub fn walk_out(walk: WalkAnswer) -> ScionWalk
-    ensures { result ≡ spec.walk_out walk }
-{
-    let answer = walk.answer;
-    let path = walk.path;
-    ScionWalk {
-        answer: answer_out(answer),
-        path,
-        moves: walk.moves,
-        arrived: walk.arrived,
     }
 }

@@ -1,7 +1,6 @@
 // The calls on packets: reading one, or a capture of one, and writing the headers of one.
 ghost use Rattle.std.specs.Prelude.{◌≡◌, length};
-ghost use Rattle.wire_encoding.specs.Result.{or_else};
-ghost use Rattle.errors.specs.Errors.{encoded_of};
+ghost use Rattle.wire_encoding.specs.Result.{done, or_else};
 ghost use Rattle.packet.specs.Raw.{read_packet, reader_of, packet_answer, capture_answer};
 ghost use Rattle.packet_headers.specs.Headers as headers;
 ghost use Rattle.scion_packets.specs.Packets as spec;
@@ -10,7 +9,6 @@ use packet::raw::ScionPacketRaw;
 use packet_headers::ScionHeaders as Headers;
 use scion_packets::{
     ScionCapture, ScionHeaders, ScionHost, ScionPacket, address_in, capture_out, encoded_out,
-    headers_in, headers_out, packet_out,
 };
 use scion_paths::ScionAnswer;
 
@@ -18,7 +16,7 @@ use scion_paths::ScionAnswer;
 fn split(bytes: &[u8], capture: bool) -> ScionPacket
     ensures { result ≡ spec.packet_out (packet_answer (reader_of capture bytes.now)) }
 {
-    packet_out(ScionPacketRaw::split(bytes, capture))
+    ScionPacket::from(ScionPacketRaw::split(bytes, capture))
 }
 
 // Splits the packet that begins `bytes`; one with fewer bytes than its headers say is refused.
@@ -31,6 +29,7 @@ pub extern "C" fn scion_read_packet(bytes: &[u8]) -> ScionPacket
 
 // Splits the capture that begins `bytes`, whether or not it has as many bytes as its headers say.
 #[unsafe(no_mangle)]
+#[tactic(auto, using(scion_packets::proofs::Packets::short_handed))]
 pub extern "C" fn scion_read_capture(bytes: &[u8]) -> ScionCapture
     ensures { result ≡ spec.capture_out (capture_answer bytes.now) }
 {
@@ -56,7 +55,7 @@ pub extern "C" fn scion_new_headers(
         flow_id) }
 {
     let address = address_in(destination_ia, destination, source_ia, source);
-    headers_out(Headers::new(
+    ScionHeaders::from(Headers::new(
         address,
         path_type,
         path_len,
@@ -71,7 +70,7 @@ pub extern "C" fn scion_new_headers(
 pub extern "C" fn scion_headers_length(given: ScionHeaders, path_len: usize) -> usize
     ensures { result ≡ headers.encoded_length (spec.headers_in given) path_len }
 {
-    headers_in(given).encoded_length(path_len)
+    Headers::from(given).encoded_length(path_len)
 }
 
 // Writes the headers and the path to `dst`, or leaves it as it is.
@@ -81,11 +80,11 @@ pub extern "C" fn scion_write_headers(
     path: &[u8],
     dst: &mut [u8],
 ) -> ScionAnswer
-    ensures value { result ≡ spec.encoded_out (encoded_of (headers.write_headers (spec.headers_in given) path.now (length dst.old))) }
+    ensures value { result ≡ spec.encoded_out (done (headers.write_headers (spec.headers_in given) path.now (length dst.old))) }
     ensures dst_after { dst.new
         ≡ or_else (headers.write_headers (spec.headers_in given) path.now (length dst.old)) dst.old }
 {
-    encoded_out(headers_in(given).encode_to(path, dst))
+    encoded_out(&Headers::from(given).encode_to(path, dst))
 }
 
 // Writes the headers that `scion_new_headers` makes and the path to `dst`, or leaves it as it is: both calls in one.
@@ -104,7 +103,7 @@ pub extern "C" fn scion_write_new_headers(
 ) -> ScionAnswer
     ensures value { result
         ≡ spec.encoded_out
-        (encoded_of
+        (done
         (headers.write_headers
         (headers.new_headers (spec.address_in destination_ia destination source_ia source) path_type (length path.now)
         next_header
@@ -132,5 +131,5 @@ pub extern "C" fn scion_write_new_headers(
         payload_length,
         flow_id,
     );
-    encoded_out(made.encode_to(path, dst))
+    encoded_out(&made.encode_to(path, dst))
 }

@@ -1,5 +1,6 @@
 // The calls on paths: each takes the path's type byte beside its bytes, and hands the library's answer over.
 ghost use Rattle.std.specs.Prelude.{◌≡◌};
+ghost use Rattle.path.specs.Standard.{beside};
 ghost use Rattle.path.specs.Dataplane as dataplane;
 ghost use Rattle.path.specs.TimeLeft as left;
 ghost use Rattle.path_reverse.specs.Copy as copy;
@@ -16,16 +17,15 @@ use path_reverse::{copy_to_slice, reverse_to_slice};
 use scion_paths::{
     ScionExpiry, ScionHopField, ScionInfoField, ScionInterface, ScionInterfaceCount,
     ScionPathAnswer, ScionPathRead, ScionSegment, ScionTimeLeft, ScionWalk, ScionWrittenPath,
-    expiry_out, hop_field_out, info_field_out, interface_count_out, interface_out, path_answer_out,
-    path_read_out, segment_out, time_left_out, walk_out, written_path_out,
+    hop_field_out, info_field_out,
 };
 
 // Reads a path by its type: its record, and how many of the bytes are the path's.
 #[unsafe(no_mangle)]
 pub extern "C" fn scion_read_path(path_type: u8, bytes: &[u8]) -> ScionPathRead
-    ensures { result ≡ spec.path_read_out (dataplane.dataplane_read (dataplane.read_dataplane path_type bytes.now)) }
+    ensures { result ≡ spec.path_read_out (dataplane.read_dataplane path_type bytes.now) }
 {
-    path_read_out(DataplanePath::new(path_type).decode(bytes))
+    ScionPathRead::from(DataplanePath::new(path_type).decode(bytes))
 }
 
 // Info field `index`.
@@ -33,7 +33,7 @@ pub extern "C" fn scion_read_path(path_type: u8, bytes: &[u8]) -> ScionPathRead
 pub extern "C" fn scion_info_field(path_type: u8, bytes: &[u8], index: usize) -> ScionInfoField
     ensures { result
         ≡ spec.info_field_out bytes.now
-        (dataplane.located (dataplane.path_of path_type bytes.now)
+        (beside (dataplane.path_of path_type bytes.now)
         (dataplane.info_field_in path_type bytes.now index)) }
 {
     info_field_out(
@@ -47,7 +47,7 @@ pub extern "C" fn scion_info_field(path_type: u8, bytes: &[u8], index: usize) ->
 pub extern "C" fn scion_hop_field(path_type: u8, bytes: &[u8], index: usize) -> ScionHopField
     ensures { result
         ≡ spec.hop_field_out bytes.now
-        (dataplane.located (dataplane.path_of path_type bytes.now)
+        (beside (dataplane.path_of path_type bytes.now)
         (dataplane.hop_field_in path_type bytes.now index)) }
 {
     hop_field_out(
@@ -61,9 +61,9 @@ pub extern "C" fn scion_hop_field(path_type: u8, bytes: &[u8], index: usize) -> 
 pub extern "C" fn scion_segment(path_type: u8, bytes: &[u8], index: usize) -> ScionSegment
     ensures { result
         ≡ spec.segment_out
-        (dataplane.segment (dataplane.path_of path_type bytes.now) (dataplane.segment_in path_type bytes.now index)) }
+        (beside (dataplane.path_of path_type bytes.now) (dataplane.segment_in path_type bytes.now index)) }
 {
-    segment_out(DataplanePath::new(path_type).segment(bytes, index))
+    ScionSegment::from(DataplanePath::new(path_type).segment(bytes, index))
 }
 
 // The expiry of segment `index`.
@@ -71,10 +71,10 @@ pub extern "C" fn scion_segment(path_type: u8, bytes: &[u8], index: usize) -> Sc
 pub extern "C" fn scion_segment_expiry(path_type: u8, bytes: &[u8], index: usize) -> ScionExpiry
     ensures { result
         ≡ spec.expiry_out
-        (expiry.expiry_found (dataplane.path_of path_type bytes.now)
+        (beside (dataplane.path_of path_type bytes.now)
         (expiry.segment_expiry_in path_type bytes.now index)) }
 {
-    expiry_out(path_expiry::segment_expiry_time(DataplanePath::new(path_type), bytes, index))
+    ScionExpiry::from(path_expiry::segment_expiry_time(DataplanePath::new(path_type), bytes, index))
 }
 
 // The expiry of the path.
@@ -82,9 +82,9 @@ pub extern "C" fn scion_segment_expiry(path_type: u8, bytes: &[u8], index: usize
 pub extern "C" fn scion_expiry(path_type: u8, bytes: &[u8]) -> ScionExpiry
     ensures { result
         ≡ spec.expiry_out
-        (expiry.expiry_found (dataplane.path_of path_type bytes.now) (expiry.expiry_in path_type bytes.now)) }
+        (beside (dataplane.path_of path_type bytes.now) (expiry.expiry_in path_type bytes.now)) }
 {
-    expiry_out(path_expiry::expiry_time(DataplanePath::new(path_type), bytes))
+    ScionExpiry::from(path_expiry::expiry_time(DataplanePath::new(path_type), bytes))
 }
 
 // The path's expiry less `at`, a time of 0 to 9,000,000,000,000 ms.
@@ -92,9 +92,9 @@ pub extern "C" fn scion_expiry(path_type: u8, bytes: &[u8]) -> ScionExpiry
 pub extern "C" fn scion_time_left(path_type: u8, bytes: &[u8], at: u64) -> ScionTimeLeft
     ensures { result
         ≡ spec.time_left_out
-        (left.time_left_found (dataplane.path_of path_type bytes.now) (expiry.time_left_in path_type bytes.now at)) }
+        (beside (dataplane.path_of path_type bytes.now) (expiry.time_left_in path_type bytes.now at)) }
 {
-    time_left_out(path_expiry::time_left(DataplanePath::new(path_type), bytes, at))
+    ScionTimeLeft::from(path_expiry::time_left(DataplanePath::new(path_type), bytes, at))
 }
 
 // When the path of a record expires, as the record has it; no bytes are looked at.
@@ -108,9 +108,9 @@ pub extern "C" fn scion_record_expiry(path: StandardPath) -> u64
 // The record's expiry less `at`, both within their bounds.
 #[unsafe(no_mangle)]
 pub extern "C" fn scion_record_time_left(path: StandardPath, at: u64) -> ScionTimeLeft
-    ensures { result ≡ spec.time_left_out (left.time_left_found path (left.time_left_of path at)) }
+    ensures { result ≡ spec.time_left_out (beside path (left.time_left_of path at)) }
 {
-    time_left_out(path.time_left(at))
+    ScionTimeLeft::from(path.time_left(at))
 }
 
 // The number of interfaces on the path.
@@ -118,10 +118,13 @@ pub extern "C" fn scion_record_time_left(path: StandardPath, at: u64) -> ScionTi
 pub extern "C" fn scion_interfaces_count(path_type: u8, bytes: &[u8]) -> ScionInterfaceCount
     ensures { result
         ≡ spec.interface_count_out
-        (interfaces.interface_count (dataplane.path_of path_type bytes.now)
+        (beside (dataplane.path_of path_type bytes.now)
         (interfaces.interfaces_in path_type bytes.now)) }
 {
-    interface_count_out(path_interfaces::interfaces_count(DataplanePath::new(path_type), bytes))
+    ScionInterfaceCount::from(path_interfaces::interfaces_count(
+        DataplanePath::new(path_type),
+        bytes,
+    ))
 }
 
 // Interface `index` in the order of travel, and its hop field.
@@ -129,10 +132,10 @@ pub extern "C" fn scion_interfaces_count(path_type: u8, bytes: &[u8]) -> ScionIn
 pub extern "C" fn scion_interface(path_type: u8, bytes: &[u8], index: usize) -> ScionInterface
     ensures { result
         ≡ spec.interface_out
-        (interfaces.interface_found (dataplane.path_of path_type bytes.now)
+        (beside (dataplane.path_of path_type bytes.now)
         (interfaces.interface_in path_type bytes.now index)) }
 {
-    interface_out(path_interfaces::interface(DataplanePath::new(path_type), bytes, index))
+    ScionInterface::from(path_interfaces::interface(DataplanePath::new(path_type), bytes, index))
 }
 
 // Sets or clears the ingress alert flag of hop field `index`.
@@ -146,7 +149,9 @@ pub extern "C" fn scion_set_ingress_router_alert(
     ensures value { result ≡ spec.path_answer_out (dataplane.written_answer path_type (dataplane.alerted 1 on path_type bytes.old index)) }
     ensures bytes_after { bytes.new ≡ dataplane.contents (dataplane.alerted 1 on path_type bytes.old index) bytes.old }
 {
-    path_answer_out(DataplanePath::new(path_type).set_cons_ingress_router_alert(bytes, index, on))
+    ScionPathAnswer::from(DataplanePath::new(path_type).set_cons_ingress_router_alert(
+        bytes, index, on,
+    ))
 }
 
 // Sets or clears the egress alert flag of hop field `index`.
@@ -160,7 +165,9 @@ pub extern "C" fn scion_set_egress_router_alert(
     ensures value { result ≡ spec.path_answer_out (dataplane.written_answer path_type (dataplane.alerted 0 on path_type bytes.old index)) }
     ensures bytes_after { bytes.new ≡ dataplane.contents (dataplane.alerted 0 on path_type bytes.old index) bytes.old }
 {
-    path_answer_out(DataplanePath::new(path_type).set_cons_egress_router_alert(bytes, index, on))
+    ScionPathAnswer::from(DataplanePath::new(path_type).set_cons_egress_router_alert(
+        bytes, index, on,
+    ))
 }
 
 // A single move.
@@ -169,7 +176,7 @@ pub extern "C" fn scion_move(path_type: u8, bytes: &mut [u8]) -> ScionPathAnswer
     ensures value { result ≡ spec.path_answer_out (dataplane.written_answer path_type (moves.move path_type bytes.old)) }
     ensures bytes_after { bytes.new ≡ moves.moved path_type bytes.old }
 {
-    path_answer_out(single_move(DataplanePath::new(path_type), bytes))
+    ScionPathAnswer::from(single_move(DataplanePath::new(path_type), bytes))
 }
 
 // A walk: moves until the last hop field or the limit.
@@ -178,7 +185,7 @@ pub extern "C" fn scion_walk(path_type: u8, bytes: &mut [u8], limit: usize) -> S
     ensures value { result ≡ spec.walk_out (moves.walk_answer path_type (moves.walk path_type bytes.old limit)) }
     ensures bytes_after { bytes.new ≡ moves.walked path_type bytes.old limit }
 {
-    walk_out(walk(DataplanePath::new(path_type), bytes, limit))
+    ScionWalk::from(walk(DataplanePath::new(path_type), bytes, limit))
 }
 
 // Copies the path to the front of a destination of at least its length; the bytes behind it stay as they are.
@@ -189,7 +196,7 @@ pub extern "C" fn scion_copy_path(path_type: u8, bytes: &[u8], dst: &mut [u8]) -
     ensures dst_after { dst.new
         ≡ copy.contents_after (copy.copy path_type bytes.now dst.old) dst.old }
 {
-    written_path_out(copy_to_slice(DataplanePath::new(path_type), bytes, dst))
+    ScionWrittenPath::from(copy_to_slice(DataplanePath::new(path_type), bytes, dst))
 }
 
 // Writes the reply's path to the front of a destination of at least the path's length; the bytes behind it stay as they are.
@@ -204,5 +211,5 @@ pub extern "C" fn scion_reverse_path(
     ensures dst_after { dst.new
         ≡ copy.contents_after (reversal.reverse path_type bytes.now dst.old) dst.old }
 {
-    written_path_out(reverse_to_slice(DataplanePath::new(path_type), bytes, dst))
+    ScionWrittenPath::from(reverse_to_slice(DataplanePath::new(path_type), bytes, dst))
 }
