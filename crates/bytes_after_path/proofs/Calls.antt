@@ -10,7 +10,7 @@ use lib.ListN.{length, take, drop, get_or, set, length-drop, get_or-append}
 use lib.Seq.{take-append-le, drop-append-le}
 use borrow.Author.Tests.{ltb-true, eqb-true}
 use Rattle.std.specs.Prelude.{Result, Ok, Err}
-use Rattle.wire_encoding.specs.Result.{require, and_then, mapped}
+use Rattle.wire_encoding.specs.Result.{require, and_then, mapped, or_else}
 use Rattle.wire_encoding.specs.BigEndian.{records}
 use Rattle.wire_encoding.specs.Bits.{with_bit}
 use Rattle.wire_encoding.proofs.Lists.{part_left, set-left}
@@ -26,9 +26,9 @@ use Rattle.path_meta_header.specs.declared.PathMetaHeader.{PathMetaHeader}
 use Rattle.path_meta_header.proofs.Segment.{inside}
 use Rattle.path_least_expiry.specs.Expiry.{hop_expiry, segment_expiry}
 use Rattle.path_least_expiry.proofs.Least.{least-same}
-use Rattle.path.specs.Standard.{info_at, both_peering, peering_path}
+use Rattle.path.specs.Standard.{no_path, info_at, both_peering, peering_path}
 use Rattle.path.specs.declared.dataplane.Extent.{Extent}
-use Rattle.path.specs.Dataplane.{read_dataplane, dataplane_read, path_of, path_left, standard, info_field_in, hop_field_in, segment_in, alerted}
+use Rattle.path.specs.Dataplane.{read_dataplane, path_of, path_left, standard, info_field_in, hop_field_in, segment_in, alerted}
 use Rattle.path.proofs.Reading.{Readable, record_read, standard_read}
 use Rattle.path.proofs.Kept.{readable_after, expires_after, record_after, path-alerted}
 use Rattle.path_hop_fields.specs.PathRuns.{hop_fields_in}
@@ -60,7 +60,7 @@ module _ (p t : List ℕ) (m : PathMetaHeader) (r : Readable p m) where
   -- so the record is the same
   pub path-after : path_of 1 (p ++ t) ≡ path_of 1 p
   unfolding path_of
-  path-after = ap (λ (found : Result Extent DecodeError). (dataplane_read found).path) reading-after
+  path-after = ap (λ (found : Result Extent DecodeError). or_else (mapped (λ (read : Extent). read.path) found) no_path) reading-after
 
   -- FIELDS
 

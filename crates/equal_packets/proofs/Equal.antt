@@ -5,15 +5,13 @@ use mathlib.Core.List.{List, ◌++◌}
 use Prim.Native.Nat.{ℕ, ◌<◌}
 use lib.ListN.{get_or, take}
 use lib.Seq.{take-add}
-use Rattle.std.specs.Prelude.{Result, Ok}
-use Rattle.wire_encoding.specs.Result.{or_else}
+use Rattle.std.specs.Prelude.{Ok}
 use Rattle.wire_encoding.proofs.Lists.{bytes_of_lem}
-use Rattle.errors.specs.declared.packet_error.Decoded.TheVariants.{Accepted}
-use Rattle.errors.specs.declared.packet_error.DecodeError.{DecodeError}
-use Rattle.errors.proofs.Errors.{decoded_ok}
+use Rattle.wire_encoding.proofs.Result.{mapped_ok, same_value}
+use Rattle.packet.specs.declared.raw.ScionPacketRaw.{ScionPacketRaw}
 use Rattle.path.specs.Standard.{no_path}
 use Rattle.packet_common_header.specs.CommonHeader.{header_length}
-use Rattle.packet.specs.Raw.{Packet, read_packet, read_capture, zero_packet, packet_answer}
+use Rattle.packet.specs.Raw.{Packet, read_packet, read_capture, raw_packet, packet_answer}
 use Rattle.packet.specs.Captures.{Reader, OfBoth, PartsOfThePacket}
 use Rattle.packet.proofs.RawLaws.{Split, split, headers_are}
 use Rattle.packet.proofs.Captures.{packet_captured, parts_of_the_packet}
@@ -26,8 +24,8 @@ use Rattle.equal_packets.specs.EqualPackets.{Filed, filed, packet_end, EqualPack
 
 -- up to the payload's end: the headers written again, then the payload
 pub all_again : (bytes : List ℕ) (p : Packet) → ((i : ℕ) → get_or bytes i 0 < 256) → Split bytes p
-    → take (packet_end (packet_answer (Ok p))) bytes ≡ header_bytes (headers_of p) p.path_bytes ++ p.payload
-unfolding packet_answer header_length
+    → take (packet_end (raw_packet p)) bytes ≡ header_bytes (headers_of p) p.path_bytes ++ p.payload
+unfolding raw_packet header_length
 all_again bytes p small s =
     let n : ℕ = header_length p.common in
     let k : ℕ = p.common.payload_length in
@@ -35,11 +33,6 @@ all_again bytes p small s =
     ∙ ap₂ (λ (x y : List ℕ). x ++ y) (sym (headers_are s) ∙ sym (same_again bytes (bytes_of_lem bytes small) p s)) (sym s.payload_is)
 
 -- BY WHAT IS FILED
-
--- what was accepted has a value
-pub was_read : (r : Result Packet DecodeError) → (packet_answer r).answer ≡ Accepted → r ≡ Ok (or_else r zero_packet)
-unfolding packet_answer
-was_read r h = decoded_ok r zero_packet refl refl h
 
 -- what is filed has all that is written again
 filed_bytes : Filed → List ℕ
@@ -49,15 +42,22 @@ filed_bytes f =
 
 module _ (read : Reader) (captured : (bytes : List ℕ) (p : Packet) → read bytes ≡ Ok p → read_capture bytes ≡ Ok p) (parts : PartsOfThePacket read) where
   all_filed : (bytes : List ℕ) → ((i : ℕ) → get_or bytes i 0 < 256) → (p : Packet) → read bytes ≡ Ok p
-      → take (packet_end (packet_answer (read bytes))) bytes ≡ filed_bytes (filed (packet_answer (read bytes)) bytes)
-  unfolding filed filed_bytes packet_answer headers_of
+      → take (packet_end (raw_packet p)) bytes ≡ filed_bytes (filed (raw_packet p) bytes)
+  unfolding filed filed_bytes raw_packet headers_of
   all_filed bytes small p e =
-      let lies = parts bytes p e in
-      rw (lies.0, lies.1, e) (all_again bytes p small (split bytes (captured bytes p e)))
+      let lies = (parts bytes p e).1 in
+      rw (lies.0, lies.1) (all_again bytes p small (split bytes (captured bytes p e)))
+
+  -- the same of what a reader answers
+  all_answered : (bytes : List ℕ) → ((i : ℕ) → get_or bytes i 0 < 256) → (a : ScionPacketRaw) → packet_answer (read bytes) ≡ Ok a
+      → take (packet_end a) bytes ≡ filed_bytes (filed a bytes)
+  all_answered bytes small a answered =
+      let found = mapped_ok raw_packet (read bytes) answered in
+      rw (← same_value found.then) (all_filed bytes small found.value found.first)
 
   equal : EqualPackets filed read
-  equal x y small-x small-y accepted-x accepted-y alike =
-      all_filed x small-x _ (was_read (read x) accepted-x) ∙ ap filed_bytes alike ∙ sym (all_filed y small-y _ (was_read (read y) accepted-y))
+  equal x y small-x small-y a b accepted-x accepted-y alike =
+      all_answered x small-x a accepted-x ∙ ap filed_bytes alike ∙ sym (all_answered y small-y b accepted-y)
 
 pub equal_packets : OfBoth (EqualPackets filed)
 equal_packets =

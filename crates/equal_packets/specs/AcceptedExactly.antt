@@ -1,9 +1,7 @@
 -- Which packets are accepted (request 2026-14), by their bytes: "version 0, factor at least 9, a path that is empty, opaque or accepted by
 -- 01's path order, common header, addresses and path together filling 4 × factor bytes, followed by at least the payload".
-use Rattle.std.specs.Prelude.{ℕ, ◌+◌, ◌*◌, ◌≤◌, ◌≡◌, ◌↔◌, true, List, length}
+use Rattle.std.specs.Prelude.{ℕ, ◌+◌, ◌*◌, ◌≤◌, ◌≡◌, ◌↔◌, true, List, length, IsOk}
 use Rattle.wire_encoding.specs.BigEndian.{big_endian, part}
-use Rattle.errors.specs.Errors.{decoded_of}
-use Rattle.errors.specs.declared.packet_error.Decoded.TheVariants.{Accepted}
 use Rattle.path_meta_header.specs.MetaHeader.{meta_of, path_length, lengths_valid, info_valid, hop_valid}
 use Rattle.path_meta_header.specs.declared.PathMetaHeader.{PathMetaHeader}
 use Rattle.path.specs.Standard.{read_path}
@@ -27,7 +25,7 @@ pub record PathOrder (path : List ℕ) : Type 0 where
 
 -- a theorem: that is what the reader of paths accepts
 abbrev pub PathsAcceptedExactly : Type 0
-PathsAcceptedExactly = (path : List ℕ) → (decoded_of (read_path path) ≡ Accepted) ↔ PathOrder path
+PathsAcceptedExactly = (path : List ℕ) → IsOk (read_path path) ↔ PathOrder path
 
 -- a path of this type that is all of these bytes: none of them is left over
 pub data PathOf (type : ℕ) (path : List ℕ) : Type 0 where
@@ -52,4 +50,4 @@ pub record Acceptable (bytes : List ℕ) : Type 0 where
 
 -- a theorem of the reader of packets
 abbrev pub AcceptedExactly : Reader → Type 0
-AcceptedExactly read = (bytes : List ℕ) → ((packet_answer (read bytes)).answer ≡ Accepted) ↔ Acceptable bytes
+AcceptedExactly read = (bytes : List ℕ) → IsOk (packet_answer (read bytes)) ↔ Acceptable bytes

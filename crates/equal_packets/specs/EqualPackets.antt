@@ -1,7 +1,7 @@
 -- Equal readings, equal packets (request 2026-14): a store files packets by their reading. Packets that are filed alike are equal in every
 -- byte up to the payload's end, and packets that are equal up to there are read alike.
-use Rattle.std.specs.Prelude.{ℕ, ◌+◌, ◌*◌, ◌<◌, ◌≡◌, List, get_or, take}
-use Rattle.errors.specs.declared.packet_error.Decoded.TheVariants.{Accepted}
+use Rattle.std.specs.Prelude.{ℕ, ◌+◌, ◌*◌, ◌<◌, ◌≡◌, List, get_or, take, Ok}
+use Rattle.wire_encoding.specs.Result.{mapped}
 use Rattle.path.specs.Dataplane.{part_in}
 use Rattle.packet_common_header.specs.declared.CommonHeader.{CommonHeader}
 use Rattle.packet_address_header.specs.declared.AddressHeader.{AddressHeader}
@@ -39,9 +39,8 @@ packet_end answer = 4 * answer.common.header_length_factor + answer.common.paylo
 abbrev pub EqualPackets : {A : Type 0} → (ScionPacketRaw → List ℕ → A) → Reader → Type 0
 EqualPackets file read =
     (x y : List ℕ) → ((i : ℕ) → get_or x i 0 < 256) → ((i : ℕ) → get_or y i 0 < 256)
-    → let a = packet_answer (read x) in
-    let b = packet_answer (read y) in
-    a.answer ≡ Accepted → b.answer ≡ Accepted → file a x ≡ file b y → take (packet_end a) x ≡ take (packet_end b) y
+    → (a b : ScionPacketRaw) → packet_answer (read x) ≡ Ok a → packet_answer (read y) ≡ Ok b
+    → file a x ≡ file b y → take (packet_end a) x ≡ take (packet_end b) y
 
 -- EQUAL PACKETS, EQUAL READINGS
 
@@ -49,6 +48,5 @@ EqualPackets file read =
 abbrev pub BytesAfterPayload : Type 0
 BytesAfterPayload =
     (x y : List ℕ) → ((i : ℕ) → get_or x i 0 < 256)
-    → let a = packet_answer (read_packet x) in
-    a.answer ≡ Accepted → take (packet_end a) y ≡ take (packet_end a) x
-    → (read_packet y ≡ read_packet x) × (filed (packet_answer (read_packet y)) y ≡ filed a x)
+    → (a : ScionPacketRaw) → packet_answer (read_packet x) ≡ Ok a → take (packet_end a) y ≡ take (packet_end a) x
+    → (read_packet y ≡ read_packet x) × (mapped (λ (b : ScionPacketRaw). filed b y) (packet_answer (read_packet y)) ≡ Ok (filed a x))

@@ -1,8 +1,8 @@
 -- Worked examples: two packets that differ in one thing alone, and packets beside each border of "accepted is exactly". They show that
 -- nothing can be left out of what is filed, and that both theorems need the requests before them, 2026-05 and 2026-06.
-use Rattle.std.specs.Prelude.{ℕ, ◌≡◌, List, [], ◌∷◌, ◌++◌, replicate}
-use Rattle.errors.specs.declared.packet_error.Decoded.TheVariants.{Accepted}
-use Rattle.errors.specs.Errors.{decoded_of, decoded_number}
+use Rattle.std.specs.Prelude.{ℕ, ◌≡◌, List, [], ◌∷◌, ◌++◌, replicate, IsOk}
+use Rattle.wire_encoding.specs.Result.{mapped}
+use Rattle.errors.specs.Errors.{decoded_number}
 use Rattle.path.specs.declared.standard.StandardPath.{StandardPath}
 use Rattle.packet_common_header.specs.declared.CommonHeader.{CommonHeader}
 use Rattle.packet_address_header.specs.AddressHeader.{without_padding}
@@ -77,9 +77,11 @@ longer reserved code last after =
 
 -- two packets that are accepted, and that are filed alike in a way
 pub record Alike {A : Type 0} (file : ScionPacketRaw → List ℕ → A) (x y : List ℕ) : Type 0 where
-  pub first : (packet_answer (read_packet x)).answer ≡ Accepted
-  pub second : (packet_answer (read_packet y)).answer ≡ Accepted
-  pub alike : file (packet_answer (read_packet x)) x ≡ file (packet_answer (read_packet y)) y
+  pub first : IsOk (packet_answer (read_packet x))
+  pub second : IsOk (packet_answer (read_packet y))
+  pub alike :
+      mapped (λ (a : ScionPacketRaw). file a x) (packet_answer (read_packet x))
+      ≡ mapped (λ (b : ScionPacketRaw). file b y) (packet_answer (read_packet y))
 
 -- by `filed`: they differ after the payload alone
 abbrev pub AlikeUpToThePayload : Type 0
@@ -127,7 +129,7 @@ Numbers = numbers ≡ 0 ∷ 0 ∷ 0 ∷ 0 ∷ 2 ∷ 3 ∷ 4 ∷ 5 ∷ 6 ∷ 7 �
 
 -- the reader of captures accepts 36 bytes under factor 10, which fill nothing: of it "accepted is exactly" is false
 abbrev pub ShortIsAccepted : Type 0
-ShortIsAccepted = (packet_answer (read_capture (headers 0 10 0 0))).answer ≡ Accepted
+ShortIsAccepted = IsOk (packet_answer (read_capture (headers 0 10 0 0)))
 
 abbrev pub NotOfCaptures : Type 0
 NotOfCaptures = AcceptedExactly read_capture → ⊥

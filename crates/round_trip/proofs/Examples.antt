@@ -14,10 +14,8 @@ use Rattle.path_fields.specs.Fields as fields
 use Rattle.path_meta_header.specs.MetaHeader as meta
 use Rattle.path_meta_header.specs.Reversal as reversal
 use Rattle.path_meta_header.specs.Encoding as encoding
-use Rattle.errors.specs.Errors.{answer_of}
-use Rattle.errors.proofs.Errors.{answer_ok}
-use Rattle.errors.specs.declared.path_error.Answer.{Answer}
-use Rattle.errors.specs.declared.path_error.Answer.TheVariants.{Accepted}
+use Rattle.std.specs.Prelude.{is_ok}
+use Rattle.wire_encoding.proofs.Result.{was_ok}
 use Rattle.path.specs.Standard as standard
 use Rattle.path.specs.Dataplane as dataplane
 use Rattle.path_reverse.specs.Copy as copy
@@ -52,7 +50,7 @@ all_bytes (v ∷ l) = cond (ltb v 256) (all_bytes l) false
 -- what the premises ask, as a value
 record Asked : Type 0 where
   bytes : Bool
-  answer : Answer
+  accepted : Bool
   exact : Bool
   few : Bool
   peering : Bool
@@ -64,7 +62,7 @@ asked : List ℕ → Asked
 asked b =
     record {
       bytes = all_bytes b;
-      answer = answer_of (dataplane.standard 1 b);
+      accepted = is_ok (dataplane.standard 1 b);
       exact = eqb (length b) (meta.path_length (dataplane.meta_header_of b));
       few = leb (round.hop_count b) 64;
       peering = rules.peering_allowed b (dataplane.meta_header_of b);
@@ -75,7 +73,7 @@ asked b =
 
 given : Asked
 given =
-    record { bytes = true; answer = Accepted; exact = true; few = true; peering = true; reserved = 0; info_start = 0; hop_start = 0 }
+    record { bytes = true; accepted = true; exact = true; few = true; peering = true; reserved = 0; info_start = 0; hop_start = 0 }
 
 every_byte : (l : List ℕ) → all_bytes l ≡ true → (i : ℕ) → get_or l i 0 < 256
 unfolding all_bytes
@@ -96,7 +94,7 @@ unfolding asked given dataplane.meta_header_of
 begun b e =
     record {
       bytes = every_byte b (ap (λ (a : Asked). a.bytes) e);
-      read = answer_ok (dataplane.standard 1 b) (meta.meta_of 0) refl refl (ap (λ (a : Asked). a.answer) e);
+      read = was_ok (dataplane.standard 1 b) (meta.meta_of 0) (ap (λ (a : Asked). a.accepted) e);
       exact = eqb-true (length b) (meta.path_length (dataplane.meta_header_of b)) (ap (λ (a : Asked). a.exact) e);
       few = leb-true (round.hop_count b) 64 (ap (λ (a : Asked). a.few) e);
       peering = ap (λ (a : Asked). a.peering) e;

@@ -1,8 +1,7 @@
 -- Worked examples: paths that meet the premises; accumulators by a path alone, a reply's first bytes, what a list of events leaves and
 -- what is met on the way back.
-use Rattle.std.specs.Prelude.{ℕ, zero, suc, ◌+◌, ◌*◌, ◌≡◌, List, [], ◌∷◌, ◌++◌, map, take, replicate}
+use Rattle.std.specs.Prelude.{ℕ, zero, suc, ◌+◌, ◌*◌, ◌≡◌, Some, List, [], ◌∷◌, ◌++◌, map, take, replicate}
 use Rattle.std.proofs.Math.Option.{Option, none, some}
-use Rattle.path_fields.specs.declared.Interface.TheVariants.{Id}
 use Rattle.path_moves.specs.Moves.{accumulator_by}
 use Rattle.round_trip.specs.RoundTrip.{first, other, Packet, State, begin, Event, sending, single_move, walk, doubling, arrival, after, Begun}
 use Rattle.round_trip.specs.RoundTrip.{meets, reply}
@@ -120,7 +119,7 @@ Travelled =
 
 -- one move back: hop field 4, its accumulator, its interfaces exchanged
 abbrev pub MetBack : Type 0
-MetBack = meets peered first 1 ≡ record { field = hop 4; accumulator = 0x2222; entry = Id 10; exit = Id 9 }
+MetBack = meets peered first 1 ≡ record { field = hop 4; accumulator = 0x2222; entry = Some 10; exit = Some 9 }
 
 abbrev pub Computed : Type 0
 Computed = AccumulatorsByAlone × ReplyBegins × Travelled × MetBack × TripIntoBuffers

@@ -6,8 +6,7 @@ use Rattle.std.proofs.Math.Option.{Option, none, some}
 use Rattle.std.proofs.Math.ListN.{get_elem?}
 use Rattle.wire_encoding.specs.Result.{mapped, or_else}
 use Rattle.wire_encoding.specs.BigEndian.{part}
-use Rattle.path_fields.specs.Fields.{ingress_interface, egress_interface}
-use Rattle.path_fields.specs.declared.Interface.{Interface}
+use Rattle.path_fields.specs.Fields.{Interface, ingress_interface, egress_interface}
 use Rattle.path_meta_header.specs.MetaHeader.{hop_fields_count, path_length, hop_start}
 use Rattle.path.specs.Standard.{hop_at}
 use Rattle.path.specs.Dataplane.{standard, meta_header_of}

@@ -2,7 +2,7 @@
 use Rattle.std.specs.Prelude.{ℕ, ◌≡◌, List, [], ◌∷◌, ◌++◌, replicate}
 use Rattle.wire_encoding.specs.Result.{mapped, or_else}
 use Rattle.wire_encoding.specs.BigEndian.{big_endian}
-use Rattle.errors.specs.Errors.{decoded_of, decoded_number, decoded_value, answer_of, answer_number}
+use Rattle.errors.specs.Errors.{decoded_number, decoded_value, answer_number}
 use Rattle.path.specs.declared.dataplane.Extent.{Extent}
 use Rattle.path.specs.Dataplane.{read_dataplane}
 use Rattle.path_expiry.specs.Expiry.{expiry_in}
@@ -20,7 +20,7 @@ reading meta =
 -- splitting a packet of these bytes: the answer's number, and its value
 unfoldable pub splitting : List ℕ → List ℕ
 splitting bytes =
-    let answer = decoded_of (read_packet bytes) in
+    let answer = read_packet bytes in
     decoded_number answer ∷ decoded_value answer ∷ []
 
 -- the expiry of a path of one hop field with these four timestamp bytes and this expiry byte

@@ -4,7 +4,7 @@ use Prim.Native.Nat.{ℕ}
 use mathlib.Core.Path.{◌≡◌, refl, sym}
 use mathlib.Core.Bool.{Bool, true, false}
 use native.Mathlib.Omega.{arith}
-use Rattle.std.specs.Prelude.{Result, Ok, Err}
+use Rattle.std.specs.Prelude.{Result, Ok, Err, is_ok}
 use Rattle.wire_encoding.specs.Result.{require, and_then, mapped, or_else, refusing, done}
 
 module _ {E A : Type 0} where
@@ -68,6 +68,11 @@ module _ {E A B C D : Type 0} (step : A → Result B E) (f : A → B → C) (g :
   refused_alike (Err e) h = cc
 
 module _ {E A : Type 0} where
+  -- where there is a value, the result is that value
+  pub was_ok : (r : Result A E) (other : A) → is_ok r ≡ true → r ≡ Ok (or_else r other)
+  was_ok (Ok a) other h = refl
+  was_ok (Err error) other h = let z : ◌≡◌ {A = ℕ} 0 1 = cc in absurd (omega arith)
+
   -- the two ends of a call that writes: what it answers, and what the lent bytes then hold
   pub written_done : (r : Result A E) (old : A) {new after : A} → r ≡ Ok new → after ≡ new → (Ok tt ≡ done r) × (after ≡ or_else r old)
   unfolding done

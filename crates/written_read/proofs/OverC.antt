@@ -11,7 +11,7 @@ use Rattle.wire_encoding.proofs.Lists.{Bytes}
 use Rattle.packet_common_header.specs.CommonHeader.{host_length}
 use Rattle.packet_address_header.specs.AddressHeader.{kind_of, host_at, address_at}
 use Rattle.packet_address_header.proofs.AddressHeaderLaws.{kind_of_kind}
-use Rattle.packet.specs.Raw.{Packet, read_packet, read_capture, packet_answer}
+use Rattle.packet.specs.Raw.{Packet, read_packet, read_capture, raw_packet, packet_answer}
 use Rattle.packet.specs.Captures.{OfBoth}
 use Rattle.packet.proofs.RawLaws.{Split, split}
 use Rattle.packet.proofs.Captures.{packet_captured, parts_of_the_packet}
@@ -45,17 +45,17 @@ module _ (bytes : List ℕ) (b : Bytes bytes) (p : Packet) (s : Split bytes p) w
   ends_back = rw (address_was bytes b p s).header (address_back _ _ _)
 
   pub headers_back : headers_in (headers_again (packet_out (packet_answer (Ok p)))) ≡ headers_of p
-  unfolding headers_in headers_again packet_out packet_answer headers_of
+  unfolding headers_in headers_again packet_out raw_packet headers_of
   headers_back = rw ends_back
 
 pub writes_again_over_c : OfBoth WritesAgainOverC
-unfolding packet_out packet_answer
+unfolding packet_out
 writes_again_over_c =
     let small_bytes : (bytes : List ℕ) → ((i : ℕ) → get_or bytes i 0 < 256) → Bytes bytes = λ bytes small i. record { fits = small i } in
     let packet : WritesAgainOverC read_packet = λ bytes p small read.
-    rw ((parts_of_the_packet.0 bytes p read).0, read, headers_back bytes (small_bytes bytes small) p (split bytes (packet_captured bytes read)))
+    rw (read, (parts_of_the_packet.0 bytes p read).1.0, headers_back bytes (small_bytes bytes small) p (split bytes (packet_captured bytes read)))
     (writes_again.0 bytes p small read) in
     let capture : WritesAgainOverC read_capture = λ bytes p small read.
-    rw ((parts_of_the_packet.1 bytes p read).0, read, headers_back bytes (small_bytes bytes small) p (split bytes read))
+    rw (read, (parts_of_the_packet.1 bytes p read).1.0, headers_back bytes (small_bytes bytes small) p (split bytes read))
     (writes_again.1 bytes p small read) in
     (packet, capture)

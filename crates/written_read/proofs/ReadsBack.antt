@@ -18,7 +18,7 @@ use Rattle.packet_address_header.specs.AddressHeader.{address_length, length_of_
 use Rattle.packet_address_header.specs.declared.AddressHeader.{AddressHeader}
 use Rattle.packet_common_header.proofs.CommonHeaderLaws.{length-common_bytes, common_widths, Fields}
 use Rattle.packet_address_header.proofs.AddressHeaderLaws.{Sixteen, length-address_bytes}
-use Rattle.packet.specs.Raw.{is_short, read_packet, read_capture, packet_answer, capture_answer}
+use Rattle.packet.specs.Raw.{is_short, read_packet, read_capture, raw_packet, capture_answer}
 use Rattle.packet.specs.Captures.{OfBoth}
 use Rattle.packet.proofs.RawLaws.{capture_accepted}
 use Rattle.packet.proofs.Captures.{goes_on, short_refused, packet_captured}
@@ -179,9 +179,9 @@ module _ (h : ScionHeaders) (path : List ℕ) (stored : StandardPath) (size : �
       (omega (arith, m.no_payload))
       (ap (λ (j : ℕ). take j []) m.no_payload)
 
-  marked : capture_answer written ≡ record { packet = packet_answer (Ok (packet_of h path stored [])); short = true }
+  marked : capture_answer written ≡ Ok (record { packet = raw_packet (packet_of h path stored []); short = true })
   unfolding capture_answer packet_of
-  marked = rw captured (ap (λ short. record { packet = packet_answer (Ok (packet_of h path stored [])); short = short }) is_short_lem)
+  marked = rw captured (ap (λ short. Ok (record { packet = raw_packet (packet_of h path stored []); short = short })) is_short_lem)
 
 pub reads_back_short : ReadsBackShort
 reads_back_short h path stored size written t m done =

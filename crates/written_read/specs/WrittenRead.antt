@@ -14,7 +14,7 @@ use Rattle.packet_address_header.specs.AddressHeader.{kind_of, service_host, hos
 use Rattle.packet_address_header.specs.declared.MaybeEncoded.TheVariants.{Decoded}
 use Rattle.packet_address_header.specs.declared.HostAddress.{HostAddress}
 use Rattle.packet_address_header.specs.declared.AddressHeader.{AddressHeader}
-use Rattle.packet.specs.Raw.{Packet, read_packet, payload_part, packet_answer, capture_answer}
+use Rattle.packet.specs.Raw.{Packet, read_packet, payload_part, raw_packet, capture_answer}
 use Rattle.packet.specs.Captures.{Reader}
 use Rattle.packet_headers.specs.Headers.{added_bytes, added_length, headers_length, new_headers, common_of, header_bytes, write_headers}
 use Rattle.packet_headers.specs.declared.ScionHeaders.{ScionHeaders}
@@ -95,7 +95,7 @@ ReadsBackShort =
     (h : ScionHeaders) (path : List ℕ) (stored : StandardPath) (size : ℕ) (written : List ℕ) → Typed h → SaysMore h path stored
     → write_headers h path size ≡ Ok written
     → (read_packet written ≡ Err PacketEmptyOrTruncated)
-    × (capture_answer written ≡ record { packet = packet_answer (Ok (packet_of h path stored [])); short = true })
+    × (capture_answer written ≡ Ok (record { packet = raw_packet (packet_of h path stored []); short = true }))
 
 -- NEW HEADERS
 
