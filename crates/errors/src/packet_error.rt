@@ -3,6 +3,8 @@ ghost use Rattle.std.specs.Prelude.{◌≡◌};
 ghost use Rattle.errors.specs.Errors.{decode_number, decode_value, encode_number};
 
 use crate::path_error::DataplanePathErrorKind;
+use std::error::Error;
+use std::fmt;
 
 // Why bytes can't be read.
 #[derive(Clone, Copy, Debug, PartialEq, Eq, Hash)]
@@ -26,6 +28,41 @@ pub enum EncodeError {
     PayloadTooLarge,
     InadequateBufferSize,
 }
+
+impl fmt::Display for DecodeError {
+    fn fmt<W: fmt::Write>(&self, f: &mut fmt::Formatter<W>) -> fmt::Result {
+        match self {
+            DecodeError::PacketEmptyOrTruncated => write!(
+                f,
+                "cut short: there are fewer bytes than its headers and payload take"
+            ),
+            DecodeError::UnsupportedVersion(version) => {
+                write!(f, "version not supported: {version}")
+            }
+            DecodeError::InvalidHeaderLength(factor) => {
+                write!(f, "header length factor under 9: {factor}")
+            }
+            DecodeError::InvalidPath(kind) => write!(f, "{kind}"),
+            DecodeError::InconsistentPathLength => write!(f, "left-over bytes after the path"),
+        }
+    }
+}
+
+impl Error for DecodeError {}
+
+impl fmt::Display for EncodeError {
+    fn fmt<W: fmt::Write>(&self, f: &mut fmt::Formatter<W>) -> fmt::Result {
+        match self {
+            EncodeError::NumberTooWide => write!(f, "a number wider than its field"),
+            EncodeError::InvalidHeaderLength => write!(f, "header length factor 0"),
+            EncodeError::HeaderTooLarge => write!(f, "header length factor above 255"),
+            EncodeError::PayloadTooLarge => write!(f, "more than 65,535 bytes of payload"),
+            EncodeError::InadequateBufferSize => write!(f, "a buffer of another size"),
+        }
+    }
+}
+
+impl Error for EncodeError {}
 
 impl DecodeError {
     pub fn number(self) -> u8

@@ -4,6 +4,8 @@ ghost use Rattle.errors.specs.declared.path_error.PathError.TheVariants.{Decode}
 ghost use Rattle.errors.specs.Errors.{kind_number, path_number, path_value};
 
 use crate::packet_error::DecodeError;
+use std::error::Error;
+use std::fmt;
 
 // What is wrong with a meta header.
 #[derive(Clone, Copy, Debug, PartialEq, Eq, Hash)]
@@ -33,6 +35,42 @@ impl From<DecodeError> for PathError {
         PathError::Decode(error)
     }
 }
+
+impl fmt::Display for DataplanePathErrorKind {
+    fn fmt<W: fmt::Write>(&self, f: &mut fmt::Formatter<W>) -> fmt::Result {
+        match self {
+            DataplanePathErrorKind::InvalidSegmentLengths => write!(
+                f,
+                "segment lengths: the first is 0, or another than 0 follows a 0"
+            ),
+            DataplanePathErrorKind::InfoFieldOutOfRange => {
+                write!(f, "info pointer beyond the info fields")
+            }
+            DataplanePathErrorKind::HopFieldOutOfRange => write!(
+                f,
+                "hop pointer beyond the hop fields, or in another segment"
+            ),
+        }
+    }
+}
+
+impl fmt::Display for PathError {
+    fn fmt<W: fmt::Write>(&self, f: &mut fmt::Formatter<W>) -> fmt::Result {
+        match self {
+            PathError::Decode(error) => write!(f, "{error}"),
+            PathError::NoSuchField => write!(f, "no such field"),
+            PathError::InadequateBufferSize => write!(f, "a buffer that is too small"),
+            PathError::NumberTooWide => write!(f, "a number wider than its field"),
+            PathError::TooManyHopFields => write!(f, "more than 64 hop fields"),
+            PathError::PeeringNotOnBoth => {
+                write!(f, "peering is not set on both of two segments")
+            }
+            PathError::AtLastHopField => write!(f, "already at the last hop field"),
+        }
+    }
+}
+
+impl Error for PathError {}
 
 impl DataplanePathErrorKind {
     pub fn number(self) -> u8
