@@ -3,20 +3,24 @@
 use mathlib.Core.Path.{◌≡◌, refl, sym, ap, ap₂, ◌∙◌}
 use mathlib.Core.Bool.{Bool, true, false, cond}
 use mathlib.Core.List.{List, [], ◌∷◌, ◌++◌}
-use Prim.Native.Nat.{ℕ, suc, ◌+◌, ◌-◌, ◌%◌, ◌≤◌, ◌<◌}
-use native.Mathlib.Nat.{add-sub_cancel_left}
+use Prim.Native.Nat.{ℕ, suc, ◌+◌, ◌%◌, ◌≤◌, ◌<◌}
 use native.Mathlib.Omega.{arith}
-use lib.ListN.{length, take, drop, set, replicate, length-take, length-append}
+use lib.ListN.{length, take, set, replicate, length-take, length-append}
 use lib.Seq.{sets, length-sets, length-take-le, take-add}
 use lib.Dec.{leb, eqb}
 use borrow.Author.Tests.{lt-ltb, le-leb, lt-leb, leb-true, eq-eqb, eqb-true}
-use Rattle.std.specs.Prelude.{Result, Ok, Err}
-use Rattle.wire_encoding.specs.Result.{require, or_else}
-use Rattle.wire_encoding.specs.BigEndian.{bytes_of, number_at, part, placed}
+use borrow.Rule.Slice.PartMut.{put_mid}
+use Rattle.std.specs.Prelude.{⊤, Result, Ok, Err}
+use Rattle.std.specs.Result.{IsOk}
+use Rattle.wire_encoding.specs.declared.write.InadequateBufferSize.{InadequateBufferSize}
+use Rattle.std.specs.Int.{bytes_high_first}
+use Rattle.wire_encoding.specs.Answers.{put_answer}
+use Rattle.wire_encoding.specs.Result.{require}
+use Rattle.wire_encoding.specs.BigEndian.{bytes_of, part, written, placed}
 use Rattle.wire_encoding.proofs.Result.{same_value, held}
-use Rattle.wire_encoding.proofs.Lists.{Bytes, length_part, written_after, set-sets}
-use Rattle.wire_encoding.proofs.BigEndian.{or_zero_is, length_bytes_of, bytes_read}
-use Rattle.wire_encoding.proofs.Writes.{placed_is, lent_written}
+use Rattle.wire_encoding.proofs.Lists.{length_part, written_after, set-sets}
+use Rattle.wire_encoding.proofs.BigEndian.{or_zero_is, length_bytes_of, bytes_read, high_first}
+use Rattle.wire_encoding.proofs.Writes.{done, placed_is, placed-whole, lent_run}
 use Rattle.address.specs.declared.host.HostAddr.TheVariants.{V4, V6, Svc}
 use Rattle.errors.specs.declared.packet_error.DecodeError.{DecodeError}
 use Rattle.errors.specs.declared.packet_error.DecodeError.TheVariants.{PacketEmptyOrTruncated}
@@ -35,12 +39,19 @@ use Rattle.packet_address_header.specs.AddressHeader.{on_wire, wire_length, wire
 
 -- HOSTS
 
--- the part is lent from `at` to `at + n`
-pub padded-placed : (bytes : List ℕ) (at n : ℕ) → n ≤ 16 → at + n ≤ length bytes
-    → placed (replicate 16 0) 0 (part at (at + n - at) bytes) ≡ padded bytes at n
+-- bytes that were copied to the front of sixteen zeros are the padded host
+pub padded-copied : (bytes : List ℕ) (at n k : ℕ) → n ≤ 16 → at + n ≤ length bytes → k ≡ n
+    → put_mid 0 k (replicate 16 0) (part at n bytes) ≡ padded bytes at n
 unfolding padded
-padded-placed bytes at n few there =
-    rw add-sub_cancel_left (placed_is (replicate 16 0) 0 (part at n bytes) n (length_part at n bytes there) (omega arith))
+padded-copied bytes at n k few there e =
+    rw e (lent_run (part at n bytes) (replicate 16 0) 0 n (length_part at n bytes there) (omega arith))
+
+-- a service's two numbers, one after the other
+pub service_copied : (number padding : ℕ) → put_mid 2 2 (put_mid 0 2 (replicate 16 0) (bytes_high_first 2 number)) (bytes_high_first 2 padding) ≡ service_bytes number padding
+unfolding service_bytes
+service_copied number padding = rw (high_first 2 number, high_first 2 padding) refl
+
+pub ruleset hosts = (padded-copied, service_copied)
 
 -- a host that was read is of the kind that it was read by
 pub kind_of_kind : (kind : ℕ) → kind_of (host_of_kind kind) ≡ kind
@@ -139,6 +150,9 @@ module _ (bytes : List ℕ) (destination source : ℕ) where
       let second = held (leb (16 + host_length destination + host_length source) (length bytes)) _ _ first.1 in
       record { header = sym (same_value second.1); inside = leb-true _ _ second.0 }
 
+-- what a reader's goals need: its two answers, and the numbers that are there
+pub ruleset reads = (address_length_lem, truncated, address_read_lem, or_zero_is)
+
 -- WRITING
 
 -- both hosts have sixteen bytes beside them: what the arrays' type says
@@ -182,6 +196,24 @@ pub address_written : (a : AddressHeader) (n : ℕ) → kind_of a.destination.ho
 unfolding write_address
 address_written a n to from exact = rw (lt-ltb _ _ to, lt-ltb _ _ from, eq-eqb _ _ exact)
 
+-- and that is all that the destination then holds
+pub header_placed : (a : AddressHeader) (dst : List ℕ) → Sixteen a → length dst ≡ address_length a → placed dst 0 (wire_bytes (on_wire a)) ≡ address_bytes a
+header_placed a dst s exact = ap (placed dst 0) (bytes_on_wire a) ∙ placed-whole (address_bytes a) dst (length-address_bytes a s ∙ sym exact)
+
+-- where there is room for a run, it is written
+pub run_put : (run dst : List ℕ) (at n : ℕ) → length run ≡ n → at + n ≤ length dst → put_answer (written dst at run) ≡ Ok tt
+run_put run dst at n size room = rw (done dst at run n size room) refl
+
+-- and so is a header
+pub header_put : (a : AddressHeader) (dst : List ℕ) (at : ℕ) → Sixteen a → at + address_length a ≤ length dst
+    → {put : Result ⊤ InadequateBufferSize} → put ≡ put_answer (written dst at (wire_bytes (on_wire a))) → IsOk put
+header_put a dst at s room e =
+    let size : length (wire_bytes (on_wire a)) ≡ address_length a = ap length (bytes_on_wire a) ∙ length-address_bytes a s in
+    rw (e, run_put (wire_bytes (on_wire a)) dst at (address_length a) size room) refl
+
+-- what a writer's goals need
+pub ruleset encodes = (header_placed, header_put, length_on_wire)
+
 -- WRITES
 
 -- one run after another, at `next`, where the first ends
@@ -207,19 +239,15 @@ module _ {bytes dst₀ : List ℕ} {at len : ℕ} {dst : List ℕ} {done : ℕ} 
   pub word_room : done < len → at + len ≤ length dst₀ → at + done + 4 ≤ length dst
   word_room more room = omega (arith, length-written)
 
-  -- the next word goes over as a number, and the bytes of a number that was read are the bytes that were read
-  pub word_written : Bytes bytes → done < len → len ≤ length bytes → at + len ≤ length dst₀ → {n : ℕ} → n ≡ or_else (number_at 4 bytes done) 0
-      → (k : ℕ) → k ≡ 4 → {now : List ℕ} → now ≡ placed (part (at + done) k dst) 0 (bytes_of 4 n)
-      → Written bytes dst₀ at len (take (at + done) dst ++ (now ++ drop k (drop (at + done) dst))) (done + 4)
-  word_written b more few room {n} read k four e =
+  -- the next word goes over as it is
+  pub word_written : done < len → len ≤ length bytes → at + len ≤ length dst₀ → (n k : ℕ) → n ≡ 4 → k ≡ 4
+      → Written bytes dst₀ at len (put_mid (at + done) k dst (part done n bytes)) (done + 4)
+  word_written more few room n k word four =
       let inside : at + done + 4 ≤ length dst = word_room more room in
-      let there : done + 4 ≤ length bytes = omega arith in
-      let word : bytes_of 4 n ≡ part done 4 bytes =
-      ap (bytes_of 4) (read ∙ or_zero_is 4 bytes done there) ∙ bytes_read 4 bytes b done there in
       record {
         so_far =
-            lent_written (bytes_of 4 n) dst (at + done) k (length_bytes_of 4 n ∙ sym four) (omega arith) e
-            ∙ ap₂ (λ (l run : List ℕ). sets l (at + done) run) w.so_far word
+            rw (word, four) (lent_run (part done 4 bytes) dst (at + done) 4 (length_part done 4 bytes (omega arith)) inside)
+            ∙ ap (λ (l : List ℕ). sets l (at + done) (part done 4 bytes)) w.so_far
             ∙ written_next (take done bytes) (part done 4 bytes) dst₀ at done (at + done) (length-take-le done bytes (omega arith)) refl
             ∙ ap (sets dst₀ at) (sym (take-add done 4 bytes));
         words = w.words;

@@ -1,11 +1,16 @@
 -- `WireAddress::put` meets its contract: where there is room for all, the four runs lie side by side; else nothing is written.
-use mathlib.Core.Path.{◌≡◌, refl, ap}
+use mathlib.Core.Path.{◌≡◌, refl, sym, ap, ◌∙◌}
 use Prim.Native.Nat.{ℕ, ◌+◌, ◌≤◌}
 use native.Mathlib.Omega.{arith}
 use lib.ListN.{length}
+use Rattle.std.specs.Prelude.{List, Ok}
+use Rattle.wire_encoding.specs.Answers.{put_answer}
+use Rattle.wire_encoding.specs.BigEndian.{bytes_of, written}
+use Rattle.wire_encoding.proofs.Result.{not_both}
+use Rattle.wire_encoding.proofs.BigEndian.{length_bytes_of}
 use Rattle.wire_encoding.proofs.Writes.{done, no_room}
 use Rattle.packet_address_header.specs.AddressHeader.{length_of_kinds, wire_length, wire_bytes}
-use Rattle.packet_address_header.proofs.AddressHeaderLaws.{WireSixteen, length-wire_bytes, ends_written}
+use Rattle.packet_address_header.proofs.AddressHeaderLaws.{WireSixteen, length-wire_bytes, run_put, ends_written}
 use borrow.Author.Rules.{rules}
 use Rattle.packet_address_header.proofs.WireAddress.put.Goals as goal
 use Rattle.packet_address_header.proofs.WireAddress.put.Goals.{Else-dst-at-2, Start}
@@ -37,17 +42,31 @@ pub put-requires : goal.put-requires
 unfolding wire_length length_of_kinds
 put-requires c = omega (arith, room (goal.at.put-requires c).Else-dst-at-2)
 
-pub put-requires-2 : goal.put-requires-2
+pub put-requires-3 : goal.put-requires-3
 unfolding wire_length length_of_kinds
-put-requires-2 c =
-    omega (arith, room (goal.at.put-requires-2 c).Else-dst-at-2, c.encoded_length-2.ensures.0)
+put-requires-3 c =
+    omega (arith, room (goal.at.put-requires-3 c).Else-dst-at-2, c.encoded_length-2.ensures.0)
+
+-- and for a number of eight bytes in it
+number_put : (number : ℕ) (dst : List ℕ) (at : ℕ) → at + 8 ≤ length dst → put_answer (written dst at (bytes_of 8 number)) ≡ Ok tt
+number_put number dst at fits = run_put (bytes_of 8 number) dst at 8 (length_bytes_of 8 number) fits
+
+pub returns-in_err-put : goal.returns-in_err-put
+unfolding wire_length length_of_kinds
+returns-in_err-put c =
+    let a = c.args in
+    let fits = room (goal.at.returns-in_err-put c).Else-dst-at-2 in
+    absurd (not_both (sym c.in_err-put.was ∙ c.put-2.ensures.value ∙ number_put a.self.destination_ia c.put.new.dst a.at (omega (arith, fits, c.put.auto.dst))))
 
 pub returns : goal.returns
+unfolding wire_length length_of_kinds
 returns c =
     let a = c.args in
     let start = (goal.at.returns c).Start in
     let fits = room (goal.at.returns c).Else-dst-at-2 in
     let next = ap (λ (n : ℕ). a.at + 16 + n) c.encoded_length-2.ensures.0 in
     let all = ends_written a.self (both_sixteen start) a.dst.now a.at _ next fits
-    c.put.ensures c.put_u64.ensures.dst_after c.put-2.ensures c.put_u64-2.ensures.dst_after in
-    rw (done a.dst.now a.at (wire_bytes a.self) _ (size start) fits) (record { value = refl; dst_after = all })
+    c.put.ensures c.put-2.ensures.dst_after c.put-3.ensures c.put-4.ensures.dst_after in
+    let kept : a.at + 8 + 8 ≤ length c.put-3.new.dst = omega (arith, fits, c.put.auto.dst, c.put-2.auto.dst, c.put-3.auto.dst) in
+    let put = c.put-4.ensures.value ∙ number_put a.self.source_ia c.put-3.new.dst (a.at + 8) kept in
+    rw (done a.dst.now a.at (wire_bytes a.self) _ (size start) fits) (record { value = put; dst_after = all })

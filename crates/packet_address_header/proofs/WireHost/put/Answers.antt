@@ -4,7 +4,6 @@ use Prim.Native.Nat.{ℕ, ◌+◌, ◌-◌, ◌≤◌}
 use native.Mathlib.Omega.{arith}
 use lib.ListN.{length, take}
 use lib.Seq.{sets}
-use Rattle.wire_encoding.proofs.Lists.{Bytes}
 use Rattle.packet_common_header.specs.CommonHeader.{host_length}
 use Rattle.packet_address_header.specs.AddressHeader.{wire_host_bytes}
 use Rattle.packet_address_header.proofs.AddressHeaderLaws.{host_words, word_written}
@@ -24,11 +23,11 @@ loop-done-preserved c =
     let turn = c.loop-done in
     let host = c.args.self in
     let sixteen : length host.bytes ≡ 16 = search rules in
-    let all_bytes : Bytes host.bytes = λ k. search rules in
     let few : c.encoded_length-len.result ≤ length host.bytes = omega (arith, c.encoded_length-len.ensures.1) in
     let from = c.args.at + turn.done in
-    word_written turn.invariant all_bytes c.loop-done-test.true few (omega (arith, c.encoded_length-len.ensures.0))
-    c.u32_or_zero.ensures (from + 4 - from) (omega arith) c.put_u32.ensures.dst_after
+    rw c.copy_from_slice.ensures.after
+    (word_written turn.invariant c.loop-done-test.true few (omega (arith, c.encoded_length-len.ensures.0))
+    (turn.done + 4 - turn.done) (from + 4 - from) (omega arith) (omega arith))
 
 pub returns : goal.returns
 unfolding wire_host_bytes
