@@ -20,7 +20,7 @@ use Rattle.wire_encoding.specs.BigEndian.{bytes_of, part, written, placed}
 use Rattle.wire_encoding.proofs.Result.{same_value, held}
 use Rattle.wire_encoding.proofs.Lists.{length_part, written_after, set-sets}
 use Rattle.wire_encoding.proofs.BigEndian.{or_zero_is, length_bytes_of, bytes_read, high_first}
-use Rattle.wire_encoding.proofs.Writes.{done, placed_is, placed-whole, lent_run}
+use Rattle.wire_encoding.proofs.Writes.{done, no_room, placed_is, placed-whole, lent_run}
 use Rattle.address.specs.declared.host.HostAddr.TheVariants.{V4, V6, Svc}
 use Rattle.errors.specs.declared.packet_error.DecodeError.{DecodeError}
 use Rattle.errors.specs.declared.packet_error.DecodeError.TheVariants.{PacketEmptyOrTruncated}
@@ -40,18 +40,16 @@ use Rattle.packet_address_header.specs.AddressHeader.{on_wire, wire_length, wire
 -- HOSTS
 
 -- bytes that were copied to the front of sixteen zeros are the padded host
-pub padded-copied : (bytes : List ℕ) (at n k : ℕ) → n ≤ 16 → at + n ≤ length bytes → k ≡ n
+pub padded_copied : (bytes : List ℕ) (at n k : ℕ) → n ≤ 16 → at + n ≤ length bytes → k ≡ n
     → put_mid 0 k (replicate 16 0) (part at n bytes) ≡ padded bytes at n
 unfolding padded
-padded-copied bytes at n k few there e =
+padded_copied bytes at n k few there e =
     rw e (lent_run (part at n bytes) (replicate 16 0) 0 n (length_part at n bytes there) (omega arith))
 
 -- a service's two numbers, one after the other
 pub service_copied : (number padding : ℕ) → put_mid 2 2 (put_mid 0 2 (replicate 16 0) (bytes_high_first 2 number)) (bytes_high_first 2 padding) ≡ service_bytes number padding
 unfolding service_bytes
 service_copied number padding = rw (high_first 2 number, high_first 2 padding) refl
-
-pub ruleset hosts = (padded-copied, service_copied)
 
 -- a host that was read is of the kind that it was read by
 pub kind_of_kind : (kind : ℕ) → kind_of (host_of_kind kind) ≡ kind
@@ -178,6 +176,18 @@ length-wire_bytes w s =
     let e = length-wire_host_bytes w.source s.source_sixteen in
     simp (length-append, length_bytes_of 8 w.destination_ia, length_bytes_of 8 w.source_ia) (omega (arith, d, e))
 
+-- its two answers, where there is room for it and where there is none
+module _ (w : WireAddress) (s : WireSixteen w) (dst : List ℕ) (at : ℕ) where
+  pub header_room : at + wire_length w ≤ length dst → written dst at (wire_bytes w) ≡ Ok (sets dst at (wire_bytes w))
+  header_room room = done dst at (wire_bytes w) (wire_length w) (length-wire_bytes w s) room
+
+  pub header_no_room : length dst < at + wire_length w → written dst at (wire_bytes w) ≡ Err 9
+  header_no_room short = no_room dst at (wire_bytes w) (wire_length w) (length-wire_bytes w s) short
+
+-- and so it is with a network number
+pub network_room : (number : ℕ) (dst : List ℕ) (at : ℕ) → at + 8 ≤ length dst → written dst at (bytes_of 8 number) ≡ Ok (sets dst at (bytes_of 8 number))
+network_room number dst at room = done dst at (bytes_of 8 number) 8 (length_bytes_of 8 number) room
+
 -- the length and the bytes of a header on the wire are the header's
 pub length_on_wire : (a : AddressHeader) → wire_length (on_wire a) ≡ address_length a
 unfolding wire_length on_wire host_on_wire address_length
@@ -200,18 +210,13 @@ address_written a n to from exact = rw (lt-ltb _ _ to, lt-ltb _ _ from, eq-eqb _
 pub header_placed : (a : AddressHeader) (dst : List ℕ) → Sixteen a → length dst ≡ address_length a → placed dst 0 (wire_bytes (on_wire a)) ≡ address_bytes a
 header_placed a dst s exact = ap (placed dst 0) (bytes_on_wire a) ∙ placed-whole (address_bytes a) dst (length-address_bytes a s ∙ sym exact)
 
--- where there is room for a run, it is written
-pub run_put : (run dst : List ℕ) (at n : ℕ) → length run ≡ n → at + n ≤ length dst → put_answer (written dst at run) ≡ Ok tt
-run_put run dst at n size room = rw (done dst at run n size room) refl
-
--- and so is a header
+-- where there is room it is put
 pub header_put : (a : AddressHeader) (dst : List ℕ) (at : ℕ) → Sixteen a → at + address_length a ≤ length dst
     → {put : Result ⊤ InadequateBufferSize} → put ≡ put_answer (written dst at (wire_bytes (on_wire a))) → IsOk put
 header_put a dst at s room e =
-    let size : length (wire_bytes (on_wire a)) ≡ address_length a = ap length (bytes_on_wire a) ∙ length-address_bytes a s in
-    rw (e, run_put (wire_bytes (on_wire a)) dst at (address_length a) size room) refl
+    rw (e, header_room (on_wire a) (sixteen_on_wire a s) dst at (rw (length_on_wire a) room)) refl
 
--- what a writer's goals need
+-- what the writer of a header needs
 pub ruleset encodes = (header_placed, header_put, length_on_wire)
 
 -- WRITES
@@ -239,14 +244,14 @@ module _ {bytes dst₀ : List ℕ} {at len : ℕ} {dst : List ℕ} {done : ℕ} 
   pub word_room : done < len → at + len ≤ length dst₀ → at + done + 4 ≤ length dst
   word_room more room = omega (arith, length-written)
 
-  -- the next word goes over as it is
-  pub word_written : done < len → len ≤ length bytes → at + len ≤ length dst₀ → (n k : ℕ) → n ≡ 4 → k ≡ 4
-      → Written bytes dst₀ at len (put_mid (at + done) k dst (part done n bytes)) (done + 4)
-  word_written more few room n k word four =
+  -- the next word goes over as it is: n bytes are lent for reading, and k for writing
+  pub word_written : done < len → len ≤ length bytes → at + len ≤ length dst₀ → {run : List ℕ} (n k : ℕ) → run ≡ part done n bytes → n ≡ 4 → k ≡ 4
+      → Written bytes dst₀ at len (put_mid (at + done) k dst run) (done + 4)
+  word_written more few room {run} n k read word four =
       let inside : at + done + 4 ≤ length dst = word_room more room in
       record {
         so_far =
-            rw (word, four) (lent_run (part done 4 bytes) dst (at + done) 4 (length_part done 4 bytes (omega arith)) inside)
+            rw (read, word, four) (lent_run (part done 4 bytes) dst (at + done) 4 (length_part done 4 bytes (omega arith)) inside)
             ∙ ap (λ (l : List ℕ). sets l (at + done) (part done 4 bytes)) w.so_far
             ∙ written_next (take done bytes) (part done 4 bytes) dst₀ at done (at + done) (length-take-le done bytes (omega arith)) refl
             ∙ ap (sets dst₀ at) (sym (take-add done 4 bytes));
@@ -311,3 +316,6 @@ module _ (w : WireAddress) (s : WireSixteen w) (dst : List ℕ) (at source_at : 
       end_written src_host two w.source_ia (at + 8) source_at (omega arith) (omega (arith, kept)) e₃ e₄
       ∙ ap (λ (l : List ℕ). sets (sets l (at + 8) from) source_at src_host) first
       ∙ in_row
+
+-- what the writer of a header on the wire needs
+pub ruleset puts = (header_room, header_no_room, network_room, ends_written)

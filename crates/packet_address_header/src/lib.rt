@@ -67,7 +67,7 @@ pub struct WireAddress {
 }
 
 // The `len` bytes at `at`, then zeros. Four, which most hosts have, are a length that the compiler copies as one word.
-#[tactic(auto, using(crate::proofs::AddressHeaderLaws::hosts))]
+#[tactic(auto, using(crate::proofs::AddressHeaderLaws::padded_copied))]
 fn raw_host_address(bytes: &[u8], at: usize, len: usize) -> [u8; 16]
     requires { (len ≤ 16) × (at + len ≤ length bytes.now) }
     ensures { result ≡ spec.padded bytes.now at len }
@@ -82,7 +82,7 @@ fn raw_host_address(bytes: &[u8], at: usize, len: usize) -> [u8; 16]
 }
 
 // A service's number and its padding, then zeros.
-#[tactic(auto, using(crate::proofs::AddressHeaderLaws::hosts), unfolding(crate::specs::AddressHeader::service_bytes))]
+#[tactic(auto, using(crate::proofs::AddressHeaderLaws::service_copied))]
 fn service_bytes(number: u16, padding: u16) -> [u8; 16]
     ensures { result ≡ spec.service_bytes number padding }
 {
@@ -101,6 +101,7 @@ impl WireHost {
     }
 
     // Writes the host at `at`, where there is room for it, in words of four bytes: a copy of any length costs a call.
+    #[tactic(auto, using(crate::proofs::AddressHeaderLaws::host_words), unfolding(crate::specs::AddressHeader::wire_host_bytes))]
     fn put(self, dst: &mut [u8], at: usize)
         requires { at + host_length self.kind ≤ length dst.old }
         ensures { dst.new ≡ sets dst.old at (spec.wire_host_bytes self) }
@@ -128,6 +129,7 @@ impl WireAddress {
 
     // Writes all of the header at `at`, or nothing for want of room. Each host goes before its network: after its loop the compiler
     // stores the network's eight bytes at once.
+    #[tactic(auto, using(crate::proofs::AddressHeaderLaws::puts), unfolding(crate::specs::AddressHeader::wire_length, crate::specs::AddressHeader::length_of_kinds))]
     pub fn put(self, dst: &mut [u8], at: usize) -> Result<(), InadequateBufferSize>
         ensures value { result ≡ put_answer (written dst.old at (spec.wire_bytes self)) }
         ensures dst_after { dst.new ≡ placed dst.old at (spec.wire_bytes self) }
@@ -374,7 +376,7 @@ impl AddressHeader {
     }
 
     // Writes the header to `dst`, or leaves it as it is.
-    #[tactic(auto, using(crate::proofs::AddressHeaderLaws::encodes), unfolding(crate::specs::AddressHeader::write_address, crate::specs::AddressHeader::on_wire, crate::specs::AddressHeader::host_on_wire, crate::specs::AddressHeader::wire_length, crate::specs::AddressHeader::address_length, wire_encoding::specs::Result::done))]
+    #[tactic(auto, using(crate::proofs::AddressHeaderLaws::encodes), unfolding(crate::specs::AddressHeader::write_address, crate::specs::AddressHeader::on_wire, crate::specs::AddressHeader::host_on_wire, wire_encoding::specs::Result::done))]
     pub fn encode_to(self, dst: &mut [u8]) -> Result<(), EncodeError>
         ensures value { result ≡ done (spec.write_address self (length dst.old)) }
         ensures dst_after { dst.new ≡ or_else (spec.write_address self (length dst.old)) dst.old }
