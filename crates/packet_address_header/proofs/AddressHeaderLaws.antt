@@ -3,20 +3,24 @@
 use mathlib.Core.Path.{◌≡◌, refl, sym, ap, ap₂, ◌∙◌}
 use mathlib.Core.Bool.{Bool, true, false, cond}
 use mathlib.Core.List.{List, [], ◌∷◌, ◌++◌}
-use Prim.Native.Nat.{ℕ, suc, ◌+◌, ◌-◌, ◌%◌, ◌≤◌, ◌<◌}
-use native.Mathlib.Nat.{add-sub_cancel_left}
+use Prim.Native.Nat.{ℕ, suc, ◌+◌, ◌%◌, ◌≤◌, ◌<◌}
 use native.Mathlib.Omega.{arith}
-use lib.ListN.{length, take, drop, set, replicate, length-take, length-append}
+use lib.ListN.{length, take, set, replicate, length-take, length-append}
 use lib.Seq.{sets, length-sets, length-take-le, take-add}
 use lib.Dec.{leb, eqb}
 use borrow.Author.Tests.{lt-ltb, le-leb, lt-leb, leb-true, eq-eqb, eqb-true}
-use Rattle.std.specs.Prelude.{Result, Ok, Err}
-use Rattle.wire_encoding.specs.Result.{require, or_else}
-use Rattle.wire_encoding.specs.BigEndian.{bytes_of, number_at, part, placed}
+use borrow.Rule.Slice.PartMut.{put_mid}
+use Rattle.std.specs.Prelude.{⊤, Result, Ok, Err}
+use Rattle.std.specs.Result.{IsOk}
+use Rattle.wire_encoding.specs.declared.write.InadequateBufferSize.{InadequateBufferSize}
+use Rattle.std.specs.Int.{bytes_high_first}
+use Rattle.wire_encoding.specs.Answers.{put_answer}
+use Rattle.wire_encoding.specs.Result.{require}
+use Rattle.wire_encoding.specs.BigEndian.{bytes_of, part, written, placed}
 use Rattle.wire_encoding.proofs.Result.{same_value, held}
-use Rattle.wire_encoding.proofs.Lists.{Bytes, length_part, written_after, set-sets}
-use Rattle.wire_encoding.proofs.BigEndian.{or_zero_is, length_bytes_of, bytes_read}
-use Rattle.wire_encoding.proofs.Writes.{placed_is, lent_written}
+use Rattle.wire_encoding.proofs.Lists.{length_part, written_after, set-sets}
+use Rattle.wire_encoding.proofs.BigEndian.{or_zero_is, length_bytes_of, bytes_read, high_first}
+use Rattle.wire_encoding.proofs.Writes.{done, no_room, placed_is, placed-whole, lent_run}
 use Rattle.address.specs.declared.host.HostAddr.TheVariants.{V4, V6, Svc}
 use Rattle.errors.specs.declared.packet_error.DecodeError.{DecodeError}
 use Rattle.errors.specs.declared.packet_error.DecodeError.TheVariants.{PacketEmptyOrTruncated}
@@ -35,12 +39,17 @@ use Rattle.packet_address_header.specs.AddressHeader.{on_wire, wire_length, wire
 
 -- HOSTS
 
--- the part is lent from `at` to `at + n`
-pub padded-placed : (bytes : List ℕ) (at n : ℕ) → n ≤ 16 → at + n ≤ length bytes
-    → placed (replicate 16 0) 0 (part at (at + n - at) bytes) ≡ padded bytes at n
+-- bytes that were copied to the front of sixteen zeros are the padded host
+pub padded_copied : (bytes : List ℕ) (at n k : ℕ) → n ≤ 16 → at + n ≤ length bytes → k ≡ n
+    → put_mid 0 k (replicate 16 0) (part at n bytes) ≡ padded bytes at n
 unfolding padded
-padded-placed bytes at n few there =
-    rw add-sub_cancel_left (placed_is (replicate 16 0) 0 (part at n bytes) n (length_part at n bytes there) (omega arith))
+padded_copied bytes at n k few there e =
+    rw e (lent_run (part at n bytes) (replicate 16 0) 0 n (length_part at n bytes there) (omega arith))
+
+-- a service's two numbers, one after the other
+pub service_copied : (number padding : ℕ) → put_mid 2 2 (put_mid 0 2 (replicate 16 0) (bytes_high_first 2 number)) (bytes_high_first 2 padding) ≡ service_bytes number padding
+unfolding service_bytes
+service_copied number padding = rw (high_first 2 number, high_first 2 padding) refl
 
 -- a host that was read is of the kind that it was read by
 pub kind_of_kind : (kind : ℕ) → kind_of (host_of_kind kind) ≡ kind
@@ -139,6 +148,9 @@ module _ (bytes : List ℕ) (destination source : ℕ) where
       let second = held (leb (16 + host_length destination + host_length source) (length bytes)) _ _ first.1 in
       record { header = sym (same_value second.1); inside = leb-true _ _ second.0 }
 
+-- what a reader's goals need: its two answers, and the numbers that are there
+pub ruleset reads = (address_length_lem, truncated, address_read_lem, or_zero_is)
+
 -- WRITING
 
 -- both hosts have sixteen bytes beside them: what the arrays' type says
@@ -164,6 +176,18 @@ length-wire_bytes w s =
     let e = length-wire_host_bytes w.source s.source_sixteen in
     simp (length-append, length_bytes_of 8 w.destination_ia, length_bytes_of 8 w.source_ia) (omega (arith, d, e))
 
+-- its two answers, where there is room for it and where there is none
+module _ (w : WireAddress) (s : WireSixteen w) (dst : List ℕ) (at : ℕ) where
+  pub header_room : at + wire_length w ≤ length dst → written dst at (wire_bytes w) ≡ Ok (sets dst at (wire_bytes w))
+  header_room room = done dst at (wire_bytes w) (wire_length w) (length-wire_bytes w s) room
+
+  pub header_no_room : length dst < at + wire_length w → written dst at (wire_bytes w) ≡ Err 9
+  header_no_room short = no_room dst at (wire_bytes w) (wire_length w) (length-wire_bytes w s) short
+
+-- and so it is with a network number
+pub network_room : (number : ℕ) (dst : List ℕ) (at : ℕ) → at + 8 ≤ length dst → written dst at (bytes_of 8 number) ≡ Ok (sets dst at (bytes_of 8 number))
+network_room number dst at room = done dst at (bytes_of 8 number) 8 (length_bytes_of 8 number) room
+
 -- the length and the bytes of a header on the wire are the header's
 pub length_on_wire : (a : AddressHeader) → wire_length (on_wire a) ≡ address_length a
 unfolding wire_length on_wire host_on_wire address_length
@@ -181,6 +205,19 @@ pub address_written : (a : AddressHeader) (n : ℕ) → kind_of a.destination.ho
     → write_address a n ≡ Ok (address_bytes a)
 unfolding write_address
 address_written a n to from exact = rw (lt-ltb _ _ to, lt-ltb _ _ from, eq-eqb _ _ exact)
+
+-- and that is all that the destination then holds
+pub header_placed : (a : AddressHeader) (dst : List ℕ) → Sixteen a → length dst ≡ address_length a → placed dst 0 (wire_bytes (on_wire a)) ≡ address_bytes a
+header_placed a dst s exact = ap (placed dst 0) (bytes_on_wire a) ∙ placed-whole (address_bytes a) dst (length-address_bytes a s ∙ sym exact)
+
+-- where there is room it is put
+pub header_put : (a : AddressHeader) (dst : List ℕ) (at : ℕ) → Sixteen a → at + address_length a ≤ length dst
+    → {put : Result ⊤ InadequateBufferSize} → put ≡ put_answer (written dst at (wire_bytes (on_wire a))) → IsOk put
+header_put a dst at s room e =
+    rw (e, header_room (on_wire a) (sixteen_on_wire a s) dst at (rw (length_on_wire a) room)) refl
+
+-- what the writer of a header needs
+pub ruleset encodes = (header_placed, header_put, length_on_wire)
 
 -- WRITES
 
@@ -207,19 +244,15 @@ module _ {bytes dst₀ : List ℕ} {at len : ℕ} {dst : List ℕ} {done : ℕ} 
   pub word_room : done < len → at + len ≤ length dst₀ → at + done + 4 ≤ length dst
   word_room more room = omega (arith, length-written)
 
-  -- the next word goes over as a number, and the bytes of a number that was read are the bytes that were read
-  pub word_written : Bytes bytes → done < len → len ≤ length bytes → at + len ≤ length dst₀ → {n : ℕ} → n ≡ or_else (number_at 4 bytes done) 0
-      → (k : ℕ) → k ≡ 4 → {now : List ℕ} → now ≡ placed (part (at + done) k dst) 0 (bytes_of 4 n)
-      → Written bytes dst₀ at len (take (at + done) dst ++ (now ++ drop k (drop (at + done) dst))) (done + 4)
-  word_written b more few room {n} read k four e =
+  -- the next word goes over as it is: n bytes are lent for reading, and k for writing
+  pub word_written : done < len → len ≤ length bytes → at + len ≤ length dst₀ → {run : List ℕ} (n k : ℕ) → run ≡ part done n bytes → n ≡ 4 → k ≡ 4
+      → Written bytes dst₀ at len (put_mid (at + done) k dst run) (done + 4)
+  word_written more few room {run} n k read word four =
       let inside : at + done + 4 ≤ length dst = word_room more room in
-      let there : done + 4 ≤ length bytes = omega arith in
-      let word : bytes_of 4 n ≡ part done 4 bytes =
-      ap (bytes_of 4) (read ∙ or_zero_is 4 bytes done there) ∙ bytes_read 4 bytes b done there in
       record {
         so_far =
-            lent_written (bytes_of 4 n) dst (at + done) k (length_bytes_of 4 n ∙ sym four) (omega arith) e
-            ∙ ap₂ (λ (l run : List ℕ). sets l (at + done) run) w.so_far word
+            rw (read, word, four) (lent_run (part done 4 bytes) dst (at + done) 4 (length_part done 4 bytes (omega arith)) inside)
+            ∙ ap (λ (l : List ℕ). sets l (at + done) (part done 4 bytes)) w.so_far
             ∙ written_next (take done bytes) (part done 4 bytes) dst₀ at done (at + done) (length-take-le done bytes (omega arith)) refl
             ∙ ap (sets dst₀ at) (sym (take-add done 4 bytes));
         words = w.words;
@@ -283,3 +316,6 @@ module _ (w : WireAddress) (s : WireSixteen w) (dst : List ℕ) (at source_at : 
       end_written src_host two w.source_ia (at + 8) source_at (omega arith) (omega (arith, kept)) e₃ e₄
       ∙ ap (λ (l : List ℕ). sets (sets l (at + 8) from) source_at src_host) first
       ∙ in_row
+
+-- what the writer of a header on the wire needs
+pub ruleset puts = (header_room, header_no_room, network_room, ends_written)

@@ -1,6 +1,6 @@
 -- The draft's Address Header: DstISD and DstAS, SrcISD and SrcAS (a network number of 64 bits each), DstHostAddr, SrcHostAddr; what
 -- reading one finds, and what writing one does.
-use Rattle.std.specs.Prelude.{ℕ, ◌+◌, true, false, cond, ◌&&◌, List, [], ◌++◌, length, take, replicate, ltb, leb, eqb, Option, Some, None, Result, Ok}
+use Rattle.std.specs.Prelude.{ℕ, ◌+◌, cond, ◌&&◌, List, [], ◌++◌, length, take, replicate, ltb, leb, eqb, Option, Some, None, Result, Ok}
 use Rattle.std.proofs.lemmas.List.Edits.{sets}
 use Rattle.wire_encoding.specs.Result.{require, ◌>>◌, mapped}
 use Rattle.wire_encoding.specs.BigEndian.{big_endian, bytes_of, part}

@@ -67,6 +67,7 @@ pub struct WireAddress {
 }
 
 // The `len` bytes at `at`, then zeros. Four, which most hosts have, are a length that the compiler copies as one word.
+#[tactic(auto, using(crate::proofs::AddressHeaderLaws::padded_copied))]
 fn raw_host_address(bytes: &[u8], at: usize, len: usize) -> [u8; 16]
     requires { (len ≤ 16) × (at + len ≤ length bytes.now) }
     ensures { result ≡ spec.padded bytes.now at len }
@@ -81,6 +82,7 @@ fn raw_host_address(bytes: &[u8], at: usize, len: usize) -> [u8; 16]
 }
 
 // A service's number and its padding, then zeros.
+#[tactic(auto, using(crate::proofs::AddressHeaderLaws::service_copied))]
 fn service_bytes(number: u16, padding: u16) -> [u8; 16]
     ensures { result ≡ spec.service_bytes number padding }
 {
@@ -99,6 +101,7 @@ impl WireHost {
     }
 
     // Writes the host at `at`, where there is room for it, in words of four bytes: a copy of any length costs a call.
+    #[tactic(auto, using(crate::proofs::AddressHeaderLaws::host_words), unfolding(crate::specs::AddressHeader::wire_host_bytes))]
     fn put(self, dst: &mut [u8], at: usize)
         requires { at + host_length self.kind ≤ length dst.old }
         ensures { dst.new ≡ sets dst.old at (spec.wire_host_bytes self) }
@@ -115,6 +118,7 @@ impl WireHost {
 
 impl WireAddress {
     // How many bytes the header has on the wire.
+    #[tactic(auto, unfolding(crate::specs::AddressHeader::wire_length, crate::specs::AddressHeader::length_of_kinds))]
     pub fn encoded_length(self) -> usize
         ensures { (result ≡ spec.wire_length self) × (result ≤ 48) }
     {
@@ -125,6 +129,7 @@ impl WireAddress {
 
     // Writes all of the header at `at`, or nothing for want of room. Each host goes before its network: after its loop the compiler
     // stores the network's eight bytes at once.
+    #[tactic(auto, using(crate::proofs::AddressHeaderLaws::puts), unfolding(crate::specs::AddressHeader::wire_length, crate::specs::AddressHeader::length_of_kinds))]
     pub fn put(self, dst: &mut [u8], at: usize) -> Result<(), InadequateBufferSize>
         ensures value { result ≡ put_answer (written dst.old at (spec.wire_bytes self)) }
         ensures dst_after { dst.new ≡ placed dst.old at (spec.wire_bytes self) }
@@ -146,6 +151,7 @@ impl WireAddress {
 
 impl MaybeEncoded {
     // The host kind on the wire.
+    #[tactic(auto, unfolding(crate::specs::AddressHeader::kind_of))]
     pub fn kind(self) -> u8
         ensures { result ≡ spec.kind_of self }
     {
@@ -200,6 +206,7 @@ impl HostAddress {
     }
 
     // The host of a kind at `at`, whose bytes are there.
+    #[tactic(auto, using(wire_encoding::proofs::BigEndian::or_zero_is), unfolding(crate::specs::AddressHeader::host_at, packet_common_header::specs::CommonHeader::host_length))]
     fn read(bytes: &[u8], at: usize, kind: u8) -> HostAddress
         requires { at + host_length kind ≤ length bytes.now }
         ensures { result ≡ spec.host_at kind bytes.now at }
@@ -224,6 +231,7 @@ impl HostAddress {
     }
 
     // The host as it is on the wire; a service is its number and its padding.
+    #[tactic(auto, unfolding(crate::specs::AddressHeader::host_on_wire, crate::specs::AddressHeader::kind_of, crate::specs::AddressHeader::raw_of))]
     fn on_wire(self) -> WireHost
         ensures { result ≡ spec.host_on_wire self }
     {
@@ -244,6 +252,7 @@ impl HostAddress {
     }
 
     // The host with its network, where it has a name.
+    #[tactic(auto, unfolding(crate::specs::AddressHeader::endhost_in))]
     fn in_network(self, isd_asn: IsdAsn) -> Option<ScionAddr>
         ensures { result ≡ spec.endhost_of self isd_asn }
     {
@@ -259,6 +268,7 @@ impl AddressHeader {
     pub const BASE_LENGTH: usize = 16;
 
     // The header of two ends; their paddings are zero.
+    #[tactic(auto, unfolding(crate::specs::AddressHeader::address_header_of))]
     pub fn new(destination: ScionAddr, source: ScionAddr) -> AddressHeader
         ensures { result ≡ spec.address_header_of destination source }
     {
@@ -285,6 +295,7 @@ impl AddressHeader {
     }
 
     // The header that stands in the place of one that was refused.
+    #[tactic(auto, unfolding(crate::specs::AddressHeader::zero_address, crate::specs::AddressHeader::address_at, crate::specs::AddressHeader::host_at, crate::specs::AddressHeader::host_of_kind, crate::specs::AddressHeader::padded, packet_common_header::specs::CommonHeader::host_length, wire_encoding::specs::BigEndian::big_endian))]
     pub fn zero() -> AddressHeader
         ensures { result ≡ spec.zero_address }
     {
@@ -302,6 +313,7 @@ impl AddressHeader {
     }
 
     // The same header with both paddings zero, as the headers of a new packet have them.
+    #[tactic(auto, unfolding(crate::specs::AddressHeader::without_padding, crate::specs::AddressHeader::with_padding))]
     pub fn without_padding(self) -> AddressHeader
         ensures { result ≡ spec.without_padding self }
     {
@@ -312,6 +324,7 @@ impl AddressHeader {
     }
 
     // How many bytes the header has on the wire.
+    #[tactic(auto, unfolding(crate::specs::AddressHeader::address_length, crate::specs::AddressHeader::length_of_kinds))]
     pub fn encoded_length(self) -> usize
         ensures { (result ≡ spec.address_length self) × (result ≤ 48) }
     {
@@ -322,6 +335,7 @@ impl AddressHeader {
 
     // Reads the address header that begins `bytes`. `host_kinds` is the common header's byte of them, the destination's in its high
     // half, so no kind is above 15.
+    #[tactic(auto, using(crate::proofs::AddressHeaderLaws::reads), unfolding(crate::specs::AddressHeader::address_at, crate::specs::AddressHeader::length_of_kinds))]
     pub fn decode_with_context(
         bytes: &[u8],
         host_kinds: u8,
@@ -349,6 +363,7 @@ impl AddressHeader {
     }
 
     // The header as it is on the wire.
+    #[tactic(auto, unfolding(crate::specs::AddressHeader::on_wire))]
     pub fn on_wire(self) -> WireAddress
         ensures { result ≡ spec.on_wire self }
     {
@@ -361,6 +376,7 @@ impl AddressHeader {
     }
 
     // Writes the header to `dst`, or leaves it as it is.
+    #[tactic(auto, using(crate::proofs::AddressHeaderLaws::encodes), unfolding(crate::specs::AddressHeader::write_address, crate::specs::AddressHeader::on_wire, crate::specs::AddressHeader::host_on_wire, wire_encoding::specs::Result::done))]
     pub fn encode_to(self, dst: &mut [u8]) -> Result<(), EncodeError>
         ensures value { result ≡ done (spec.write_address self (length dst.old)) }
         ensures dst_after { dst.new ≡ or_else (spec.write_address self (length dst.old)) dst.old }

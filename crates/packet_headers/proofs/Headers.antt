@@ -1,6 +1,6 @@
 -- Headers that the tests let through: each part of them is written, and the parts fill the destination.
 -- Assumes nothing.
-use mathlib.Core.Path.{◌≡◌, refl, sym, ap, ap₂, ◌∙◌}
+use mathlib.Core.Path.{◌≡◌, refl, sym, ap, ◌∙◌}
 use mathlib.Core.Bool.{Bool, true, false, cond, not}
 use mathlib.Core.List.{List, [], ◌++◌}
 use Prim.Native.Nat.{ℕ, ◌+◌, ◌-◌, ◌/◌, ◌≤◌}
@@ -10,18 +10,19 @@ use lib.ListN.{length, take, drop, length-append}
 use lib.Seq.{sets, sets-eq, take-length, length-take-le, length-sets}
 use lib.Dec.{leb, eqb}
 use borrow.Author.Tests.{leb-true, le-leb, eq-eqb, ne_eqb}
+use borrow.Rule.Slice.PartMut.{put_mid}
 use Rattle.std.specs.Prelude.{Ok}
 use Rattle.wire_encoding.specs.Result.{or_else}
 use Rattle.wire_encoding.specs.BigEndian.{placed}
 use Rattle.wire_encoding.proofs.Result.{held}
 use Rattle.wire_encoding.proofs.Lists.{sets-append, sets-whole}
-use Rattle.wire_encoding.proofs.Writes.{placed_is}
+use Rattle.wire_encoding.proofs.Writes.{placed_is, lent_run}
 use Rattle.packet_common_header.specs.CommonHeader.{host_length, common_fits, common_bytes, write_common}
 use Rattle.packet_address_header.specs.AddressHeader.{address_length, length_of_kinds, address_bytes}
 use Rattle.packet_common_header.specs.declared.CommonHeader.{CommonHeader}
 use Rattle.packet_address_header.specs.declared.AddressHeader.{AddressHeader}
 use Rattle.packet_common_header.proofs.CommonHeaderLaws.{length-common_bytes, common_written}
-use Rattle.packet_address_header.proofs.AddressHeaderLaws.{Sixteen, length-address_bytes, sets_apart}
+use Rattle.packet_address_header.proofs.AddressHeaderLaws.{Sixteen, length-address_bytes, header_put, sets_apart}
 use Rattle.packet_headers.specs.declared.ScionHeaders.{ScionHeaders}
 use Rattle.packet_headers.specs.Headers.{added_length, added_bytes, headers_length, common_of, header_bytes, write_headers}
 
@@ -95,12 +96,16 @@ length-header_bytes h path s =
 
 -- WRITES
 
--- a common header whose numbers fit, written to the first twelve bytes, which are lent for it
+-- a common header whose numbers fit is written to the first twelve bytes
+pub common_first : (c : CommonHeader) (dst : List ℕ) → common_fits c ≡ true → (c.header_length_factor ≡ 0 → ⊥) → 12 ≤ length dst
+    → write_common c (length (take 12 dst)) ≡ Ok (common_bytes c)
+common_first c dst fits some room = common_written c _ fits some (length-take-le 12 dst room)
+
+-- and they are lent for it
 common_lent : (c : CommonHeader) (dst : List ℕ) {back : List ℕ} → common_fits c ≡ true → (c.header_length_factor ≡ 0 → ⊥) → 12 ≤ length dst
     → back ≡ or_else (write_common c (length (take 12 dst))) (take 12 dst) → back ++ drop 12 dst ≡ sets dst 0 (common_bytes c)
 common_lent c dst {back} fits some room e =
-    let size : length (take 12 dst) ≡ 12 = length-take-le 12 dst room in
-    let whole : back ≡ common_bytes c = rw (common_written c _ fits some size) at e in
+    let whole : back ≡ common_bytes c = rw (common_first c dst fits some room) at e in
     let long : length (common_bytes c) ≡ 12 = length-common_bytes c in
     rw whole
     (ap (λ (m : ℕ). common_bytes c ++ drop m dst) (sym long ∙ sym (zero-add (length (common_bytes c))))
@@ -132,20 +137,23 @@ module _ (h : ScionHeaders) (path dst : List ℕ) (s : Sixteen h.address)
       sets-append x (y ++ z) dst 0 ∙ sets-append y z (sets dst 0 x) (0 + length x) in
       ap (λ (l : List ℕ). sets l fixed z) (sym (sets_apart x y dst 0 12 (omega arith))) ∙ sym (rw (one, two) at apart) ∙ whole
 
-  -- the address header, the common header in the first twelve bytes, and then the path, whose part is lent from 0 on
-  pub three_written : common_fits (common_of h) ≡ true → (h.header_length_factor ≡ 0 → ⊥) → {one back three : List ℕ} → one ≡ placed dst 12 y
+  -- the address header, the common header in the first twelve bytes, and then the path, whose part is lent from 0 on, to the rest
+  pub three_written : common_fits (common_of h) ≡ true → (h.header_length_factor ≡ 0 → ⊥) → {one back run : List ℕ} → one ≡ placed dst 12 y
       → back ≡ or_else (write_common (common_of h) (length (take 12 one))) (take 12 one)
-      → three ≡ placed (back ++ drop 12 one) fixed (take (added_length h.path_type (length path) - 0) path) → three ≡ header_bytes h path
+      → run ≡ take (added_length h.path_type (length path) - 0) path → (to : ℕ) → to ≡ fixed
+      → put_mid to (length (back ++ drop 12 one) - to) (back ++ drop 12 one) run ≡ header_bytes h path
   unfolding headers_length common_of
-  three_written fits some {one} {back} e₁ e₂ e₃ =
+  three_written fits some {one} {back} {run} e₁ e₂ e₃ to at =
       let own : length y ≡ address_length h.address = length-address_bytes h.address s in
       let first : one ≡ sets dst 12 y = e₁ ∙ placed_is dst 12 y (address_length h.address) own (omega (arith, size)) in
       let kept : length one ≡ length dst = ap length first ∙ length-sets dst 12 y in
-      let second : back ++ drop 12 one ≡ sets (sets dst 12 y) 0 x =
+      let both : List ℕ = sets (sets dst 12 y) 0 x in
+      let second : back ++ drop 12 one ≡ both =
       common_lent (common_of h) one fits some (omega (arith, size, kept)) e₂ ∙ ap (λ (l : List ℕ). sets l 0 x) first in
-      let long : length (sets (sets dst 12 y) 0 x) ≡ length dst = length-sets (sets dst 12 y) 0 x ∙ length-sets dst 12 y in
-      let run : take (added_length h.path_type (length path) - 0) path ≡ z = rw sub-zero (added_part h.path_type path) in
-      e₃
-      ∙ ap₂ (λ (l r : List ℕ). placed l fixed r) second run
-      ∙ placed_is _ fixed z (added_length h.path_type (length path)) (length-added_bytes h.path_type path) (omega (arith, size, long))
-      ∙ all_written
+      let long : length both ≡ length dst = length-sets (sets dst 12 y) 0 x ∙ length-sets dst 12 y in
+      let last : run ≡ z = e₃ ∙ rw sub-zero (added_part h.path_type path) in
+      let added : length z ≡ length both - fixed = length-added_bytes h.path_type path ∙ omega (arith, size, long) in
+      rw (second, last, at) (lent_run z both fixed (length both - fixed) added (omega (arith, size, long))) ∙ all_written
+
+-- what the writer's goals need
+pub ruleset encodes = (added_few, headers-written, common_first, header_put)

@@ -48,6 +48,7 @@ fn fills(fixed: usize, added: usize, size: usize) -> bool
 impl ScionHeaders {
     // The headers of a new packet with a path of `path_len` bytes: version, traffic class, reserved bytes and both paddings 0, those of
     // hosts that were read too; the factor by the lengths.
+    #[tactic(auto, using(crate::proofs::Headers::factor_is), unfolding(crate::specs::Headers::new_headers))]
     pub fn new(
         address: AddressHeader,
         path_type: u8,
@@ -74,6 +75,7 @@ impl ScionHeaders {
     }
 
     // How many bytes the headers take with a path of `path_len` bytes, where a number can say it; else the largest number.
+    #[tactic(auto, unfolding(crate::specs::Headers::encoded_length, crate::specs::Headers::headers_length))]
     pub fn encoded_length(self, path_len: usize) -> usize
         ensures { result ≡ spec.encoded_length self path_len }
     {
@@ -86,7 +88,7 @@ impl ScionHeaders {
     }
 
     // Writes the headers and the path after them to a destination that they fill, or leaves it as it is.
-    #[tactic(auto, unfolding(crate::specs::Headers::write_headers, crate::specs::Headers::common_of, wire_encoding::specs::Result::done, packet_common_header::specs::CommonHeader::common_fits, packet_address_header::specs::AddressHeader::on_wire, packet_address_header::specs::AddressHeader::host_on_wire))]
+    #[tactic(auto, using(crate::proofs::Headers::encodes), unfolding(crate::specs::Headers::write_headers, crate::specs::Headers::headers_length, crate::specs::Headers::common_of, wire_encoding::specs::Result::done, packet_common_header::specs::CommonHeader::common_fits, packet_address_header::specs::AddressHeader::on_wire, packet_address_header::specs::AddressHeader::host_on_wire, packet_address_header::specs::AddressHeader::wire_length, packet_address_header::specs::AddressHeader::address_length))]
     pub fn encode_to(self, path: &[u8], dst: &mut [u8]) -> Result<(), EncodeError>
         ensures value { result ≡ done (spec.write_headers self path.now (length dst.old)) }
         ensures dst_after { dst.new ≡ or_else (spec.write_headers self path.now (length dst.old)) dst.old }
