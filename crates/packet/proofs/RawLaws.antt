@@ -8,7 +8,7 @@ use native.Mathlib.Omega.{arith}
 use lib.ListN.{length, get_or, take, drop, length-drop, drop_of_length-le}
 use lib.Seq.{take-add, take_all, take-length, drop-length, drop_at, length-take-le}
 use lib.Dec.{ltb, leb, eqb}
-use borrow.Author.Tests.{le-ltb, lt-leb, le-leb, leb-true, leb-false, eq-eqb, ne_eqb, eqb-true}
+use borrow.Author.Tests.{lt-leb, le-leb, leb-true, leb-false, eq-eqb, ne_eqb, eqb-true}
 use Rattle.std.specs.Prelude.{Result, Ok, Err}
 use Rattle.wire_encoding.specs.BigEndian.{part}
 use Rattle.wire_encoding.proofs.Result.{same_value, held, stepped, mapped_ok, mapped_refused}
@@ -93,7 +93,7 @@ module _ {bytes : List ℕ} {c : CommonHeader} {end : ℕ} (f : CommonFound byte
       (omega (arith, k.long, k.factor, f.ends), omega (arith, f.ends))
 
   -- the kinds of the hosts are the halves of byte 9
-  pub kinds_read : (get_or bytes 9 0 / 16 ≡ c.destination_kind) × (get_or bytes 9 0 % 16 ≡ c.source_kind)
+  kinds_read : (get_or bytes 9 0 / 16 ≡ c.destination_kind) × (get_or bytes 9 0 % 16 ≡ c.source_kind)
   unfolding common_at
   kinds_read = let fields = (common_known bytes f.common).fields in rw fields (refl, refl)
 
@@ -101,7 +101,7 @@ module _ {bytes : List ℕ} {c : CommonHeader} {end : ℕ} (f : CommonFound byte
   pub sees : (k : ℕ) → k ≤ end → part k (end - k) bytes ≡ drop k (take (header_length c) bytes)
   sees k inside = seen k (header_length c) end bytes f.ends inside
 
-  pub length_seen : (k : ℕ) → k ≤ end → length (drop k (take (header_length c) bytes)) ≡ end - k
+  length_seen : (k : ℕ) → k ≤ end → length (drop k (take (header_length c) bytes)) ≡ end - k
   length_seen k inside = ap length (sym (sees k inside)) ∙ length_part k (end - k) bytes (omega (arith, end_inside))
 
 -- an address header that was read after it, and where the path starts
@@ -119,13 +119,13 @@ module _ {bytes : List ℕ} {c : CommonHeader} {end : ℕ} {a : AddressHeader} {
       ap address_length known.header ∙ address_length_lem _ c.destination_kind c.source_kind in
       omega (arith, f.starts, known.inside, long, end_inside f.first, length_seen f.first 12 (end_inside f.first).0)
 
-  pub sees_path : part start (end - start) bytes ≡ drop (12 + address_length a) (take (header_length c) bytes)
+  sees_path : part start (end - start) bytes ≡ drop (12 + address_length a) (take (header_length c) bytes)
   sees_path = sees f.first start start_inside ∙ ap (λ (k : ℕ). drop k (take (header_length c) bytes)) f.starts
 
-  pub length-path : length (drop (12 + address_length a) (take (header_length c) bytes)) ≡ end - start
+  length-path : length (drop (12 + address_length a) (take (header_length c) bytes)) ≡ end - start
   length-path = ap length (sym sees_path) ∙ length_part start (end - start) bytes (omega (arith, start_inside, end_inside f.first))
 
-  pub length_rest : length (drop (header_length c) bytes) ≡ length bytes - end
+  length_rest : length (drop (header_length c) bytes) ≡ length bytes - end
   length_rest = length-drop (header_length c) bytes ∙ omega (arith, f.first.ends)
 
 -- WHAT IS HANDED BACK OF A PACKET, STAGE BY STAGE
@@ -139,21 +139,25 @@ abbrev path_seen : List ℕ → ℕ → ℕ → ℕ → Result Extent DecodeErro
 path_seen bytes end type start = read_dataplane type (part start (end - start) bytes)
 
 module _ (bytes : List ℕ) {c : CommonHeader} {end : ℕ} (common : read_common bytes ≡ Ok c) (ends : end ≡ min (header_length c) (length bytes)) where
+  -- the common header was read, and the headers end at `end`
   first : CommonFound bytes c end
   first = record { common = common; ends = ends }
 
   pub reaches : (12 ≤ end) × (end ≤ length bytes)
   reaches = end_inside first
 
+  -- what is seen there is what the definition reads
   same_address : address_seen bytes end ≡ read_address (drop 12 (take (header_length c) bytes)) c.destination_kind c.source_kind
   same_address = rw (sees first 12 (end_inside first).0, (kinds_read first).0, (kinds_read first).1) refl
 
+  -- an address header that is refused
   pub address_stops : {error : DecodeError} → address_answer (address_seen bytes end) ≡ Err error
       → packet_answer (read_rest c bytes) ≡ Err error
   unfolding read_rest
   address_stops h = let stopped = sym same_address ∙ mapped_refused _ (address_seen bytes end) h in rw stopped
 
   module _ {x : AddressHeaderRead} (address : address_answer (address_seen bytes end) ≡ Ok x) where
+    -- one that is read
     second : AddressFound bytes c end x.header (12 + x.length)
     second =
         let read = mapped_ok _ (address_seen bytes end) address in
@@ -167,6 +171,7 @@ module _ (bytes : List ℕ) {c : CommonHeader} {end : ℕ} (common : read_common
         ≡ read_dataplane c.path_type (drop (12 + address_length x.header) (take (header_length c) bytes))
     same_path = ap (read_dataplane c.path_type) (sees_path second)
 
+    -- a path that is refused
     pub path_stops : {error : DecodeError} → path_seen bytes end c.path_type (12 + x.length) ≡ Err error
         → packet_answer (read_rest c bytes) ≡ Err error
     unfolding read_rest
@@ -176,6 +181,7 @@ module _ (bytes : List ℕ) {c : CommonHeader} {end : ℕ} (common : read_common
       third : read_dataplane c.path_type (drop (12 + address_length x.header) (take (header_length c) bytes)) ≡ Ok read
       third = sym same_path ∙ path
 
+      -- bytes are left of the headers, or they are too few
       pub left_over : (read.length ≡ end - (12 + x.length) → ⊥) → packet_answer (read_rest c bytes) ≡ Err InconsistentPathLength
       unfolding read_rest
       left_over other = rw (second.address, third, ne_eqb _ _ (λ same. other (same ∙ length-path second)))
@@ -184,6 +190,7 @@ module _ (bytes : List ℕ) {c : CommonHeader} {end : ℕ} (common : read_common
         fills : length (drop (12 + address_length x.header) (take (header_length c) bytes)) ≡ read.length
         fills = length-path second ∙ sym whole
 
+        -- the path fills the headers, and the payload is cut
         pub payload_short : length bytes - end < c.payload_length → packet_answer (read_rest c bytes) ≡ Err PacketEmptyOrTruncated
         unfolding read_rest
         payload_short few =
@@ -291,7 +298,7 @@ module _ {bytes : List ℕ} {p : Packet} (s : Split bytes p) where
   pub where_found : AddressFound bytes p.common (min (header_length p.common) (length bytes)) p.address (12 + address_length p.address)
   where_found = record { first = record { common = s.common; ends = refl }; address = s.address; starts = refl }
 
-  pub payload_start : 12 + address_length p.address + length p.path_bytes ≡ min (header_length p.common) (length bytes)
+  payload_start : 12 + address_length p.address + length p.path_bytes ≡ min (header_length p.common) (length bytes)
   payload_start = omega (arith, start_inside where_found, ap length s.path_is ∙ length-path where_found)
 
   -- its headers are the first 4 × factor bytes, or all there are

@@ -1,4 +1,4 @@
--- `ScionPacketRaw::rest` meets its contract: an address header that is refused is the refusal.
+-- `ScionPacketRaw::rest` meets its contract: where the address header is refused, so is the packet.
 use native.Mathlib.Omega.{arith}
 use Rattle.packet.proofs.RawLaws.{address_stops}
 use Rattle.packet.proofs.raw.ScionPacketRaw.rest.Goals as goal
