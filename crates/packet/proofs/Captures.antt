@@ -15,7 +15,7 @@ use Rattle.errors.specs.declared.packet_error.DecodeError.TheVariants.{PacketEmp
 use Rattle.packet_common_header.specs.CommonHeader.{common_at, read_common, header_length}
 use Rattle.packet_common_header.specs.declared.CommonHeader.{CommonHeader}
 use Rattle.packet_common_header.proofs.CommonHeaderLaws.{common_known}
-use Rattle.packet.specs.Raw.{Packet, is_short, read_packet, read_capture, packet_answer, capture_answer}
+use Rattle.packet.specs.Raw.{Packet, is_short, read_packet, read_capture, path_part, payload_part, raw_packet, capture_answer, short_capture}
 use Rattle.packet.specs.Captures.{OfBoth, PartsOfThePacket, PacketsAreCaptures, CapturesArePackets}
 use Rattle.packet.specs.Captures.{ShortOfARefusal, ShortByItsBytes, ShortHasNoPayload}
 use Rattle.packet.specs.Captures.{LongEnoughAlike, CommonHeaderFirst, FewerBytesRefused}
@@ -28,7 +28,7 @@ unfolding capture_answer
 short_of_a_refusal bytes error h = rw h
 
 -- by the header that was read
-short_of : (bytes : List ℕ) {p : Packet} → read_capture bytes ≡ Ok p → (capture_answer bytes).short ≡ is_short p.common bytes
+short_of : (bytes : List ℕ) {p : Packet} → read_capture bytes ≡ Ok p → short_capture bytes ≡ is_short p.common bytes
 unfolding capture_answer
 short_of bytes h = rw h
 
@@ -90,11 +90,11 @@ pub captures_are_packets : CapturesArePackets
 captures_are_packets bytes p h long = goes_on bytes (split bytes h).common (sym (short_of bytes h) ∙ long) ∙ h
 
 pub parts_of_the_packet : OfBoth PartsOfThePacket
-unfolding packet_answer
+unfolding raw_packet path_part payload_part
 parts_of_the_packet =
     let packet : PartsOfThePacket read_packet =
-    λ bytes p h. let s = split bytes (packet_captured bytes h) in rw h (path_lies s, payload_lies s) in
-    let capture : PartsOfThePacket read_capture = λ bytes p h. let s = split bytes h in rw h (path_lies s, payload_lies s) in
+    λ bytes p h. let s = split bytes (packet_captured bytes h) in (rw h, path_lies s, payload_lies s) in
+    let capture : PartsOfThePacket read_capture = λ bytes p h. let s = split bytes h in (rw h, path_lies s, payload_lies s) in
     (packet, capture)
 
 -- WHERE THE READERS PART

@@ -9,7 +9,7 @@ use Rattle.path.specs.Standard as standard
 use Rattle.path.specs.Dataplane as dataplane
 use Rattle.packet_common_header.specs.CommonHeader as common
 use Rattle.packet_address_header.specs.AddressHeader as address
-use Rattle.packet.specs.Raw.{read_rest, is_short, read_packet, read_capture, packet_answer, capture_answer}
+use Rattle.packet.specs.Raw.{read_rest, is_short, read_packet, read_capture, raw_packet, path_part, payload_part, capture_answer}
 use Rattle.packet.specs.Examples.{headers, two_hop_fields, readings, answers, wanted, Worked}
 
 pub worked : Worked
@@ -22,5 +22,5 @@ unfolding headers two_hop_fields readings answers wanted big_endian number_at ro
     common.common_at common.read_common common.header_length common.host_length
     address.kind_of address.host_of_kind address.padded address.host_at address.length_of_kinds address.address_length address.address_at
     address.read_address
-    read_rest is_short read_packet read_capture packet_answer capture_answer
+    read_rest is_short read_packet read_capture raw_packet path_part payload_part capture_answer
 worked = refl

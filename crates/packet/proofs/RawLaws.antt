@@ -8,59 +8,25 @@ use native.Mathlib.Omega.{arith}
 use lib.ListN.{length, get_or, take, drop, length-drop, drop_of_length-le}
 use lib.Seq.{take-add, take_all, take-length, drop-length, drop_at, length-take-le}
 use lib.Dec.{ltb, leb, eqb}
-use borrow.Author.Tests.{le-ltb, lt-leb, le-leb, leb-true, leb-false, eq-eqb, ne_eqb, eqb-true}
+use borrow.Author.Tests.{lt-leb, le-leb, leb-true, leb-false, eq-eqb, ne_eqb, eqb-true}
 use Rattle.std.specs.Prelude.{Result, Ok, Err}
-use Rattle.wire_encoding.specs.Result.{mapped, or_else}
 use Rattle.wire_encoding.specs.BigEndian.{part}
-use Rattle.wire_encoding.proofs.Result.{same_value, held, stepped}
+use Rattle.wire_encoding.proofs.Result.{same_value, held, stepped, mapped_ok, mapped_refused}
 use Rattle.wire_encoding.proofs.Lists.{length_part}
-use Rattle.errors.specs.declared.packet_error.Decoded.TheVariants.{Accepted, Refused}
 use Rattle.errors.specs.declared.packet_error.DecodeError.{DecodeError}
 use Rattle.errors.specs.declared.packet_error.DecodeError.TheVariants.{PacketEmptyOrTruncated, InconsistentPathLength}
 use Rattle.path.specs.declared.dataplane.Extent.{Extent}
 use Rattle.path.specs.Dataplane.{read_dataplane, part_in}
 use Rattle.path.specs.declared.standard.StandardPath.{StandardPath}
-use Rattle.packet_common_header.specs.CommonHeader.{common_at, factor_of, zero_common, read_common, common_answer, header_length}
+use Rattle.packet_common_header.specs.CommonHeader.{common_at, factor_of, read_common, header_length}
 use Rattle.packet_common_header.specs.declared.CommonHeader.{CommonHeader}
-use Rattle.packet_common_header.specs.declared.CommonHeaderRead.{CommonHeaderRead}
-use Rattle.errors.proofs.Errors.{decoded_ok, decoded_refused}
 use Rattle.packet_common_header.proofs.CommonHeaderLaws.{common_known}
-use Rattle.packet_address_header.specs.AddressHeader.{zero_address, address_length, length_of_kinds, read_address, address_answer}
+use Rattle.packet_address_header.specs.AddressHeader.{address_length, length_of_kinds, read_address, address_answer}
 use Rattle.packet_address_header.specs.declared.AddressHeader.{AddressHeader}
 use Rattle.packet_address_header.specs.declared.AddressHeaderRead.{AddressHeaderRead}
 use Rattle.packet_address_header.proofs.AddressHeaderLaws.{address_known, address_length_lem}
-use Rattle.packet.specs.Raw.{Packet, read_rest, is_short, read_packet, read_capture, reader_of, path_part, payload_part, packet_answer}
-
--- WHAT A STAGE HANDED BACK
-
-module _ (r : Result CommonHeader DecodeError) {x : CommonHeaderRead} (e : x ≡ common_answer r) where
-  pub common_ok : x.answer ≡ Accepted → r ≡ Ok x.header
-  unfolding common_answer
-  common_ok = decoded_ok r zero_common (ap (λ (y : CommonHeaderRead). y.answer) e) (ap (λ (y : CommonHeaderRead). y.header) e)
-
-  pub common_refused : {error : DecodeError} → x.answer ≡ Refused error → r ≡ Err error
-  unfolding common_answer
-  common_refused = decoded_refused r (ap (λ (y : CommonHeaderRead). y.answer) e)
-
-module _ (r : Result AddressHeader DecodeError) {x : AddressHeaderRead} (e : x ≡ address_answer r) where
-  pub address_ok : x.answer ≡ Accepted → r ≡ Ok x.header
-  unfolding address_answer
-  address_ok = decoded_ok r zero_address (ap (λ (y : AddressHeaderRead). y.answer) e) (ap (λ (y : AddressHeaderRead). y.header) e)
-
-  pub address_refused : {error : DecodeError} → x.answer ≡ Refused error → r ≡ Err error
-  unfolding address_answer
-  address_refused = decoded_refused r (ap (λ (y : AddressHeaderRead). y.answer) e)
-
-  pub address_long : x.answer ≡ Accepted → x.length ≡ address_length x.header
-  unfolding address_answer
-  address_long h = rw (address_ok h) at (ap (λ (y : AddressHeaderRead). y.length) e)
-
--- whether a capture is short, by the header that is handed back: where it was refused its length is 0, and nothing is shorter
-pub short_handed : (r : Result Packet DecodeError) (bytes : List ℕ)
-    → ltb (length bytes) (header_length (packet_answer r).common) ≡ or_else (mapped (λ (p : Packet). is_short p.common bytes) r) false
-unfolding packet_answer is_short header_length zero_common common_at
-short_handed (Ok p) bytes = refl
-short_handed (Err error) bytes = le-ltb (length bytes) 0 (omega arith)
+use Rattle.packet.specs.Raw.{Packet, read_rest, is_short, read_packet, read_capture, reader_of, path_part, payload_part, raw_packet, packet_answer, capture_answer}
+use Rattle.packet.specs.declared.raw.ScionPacketRaw.{ScionPacketRaw}
 
 -- A PACKET OR A CAPTURE, STAGE BY STAGE
 
@@ -86,6 +52,8 @@ pub then_rest : (capture : Bool) (bytes : List ℕ) {c : CommonHeader} → read_
 unfolding read_packet read_capture is_short
 then_rest true bytes common long = rw common
 then_rest false bytes common long = rw (common, long)
+
+pub ruleset splits = (first_refused, then_short, then_rest)
 
 -- WHAT A STAGE SEES
 
@@ -125,7 +93,7 @@ module _ {bytes : List ℕ} {c : CommonHeader} {end : ℕ} (f : CommonFound byte
       (omega (arith, k.long, k.factor, f.ends), omega (arith, f.ends))
 
   -- the kinds of the hosts are the halves of byte 9
-  pub kinds_read : (get_or bytes 9 0 / 16 ≡ c.destination_kind) × (get_or bytes 9 0 % 16 ≡ c.source_kind)
+  kinds_read : (get_or bytes 9 0 / 16 ≡ c.destination_kind) × (get_or bytes 9 0 % 16 ≡ c.source_kind)
   unfolding common_at
   kinds_read = let fields = (common_known bytes f.common).fields in rw fields (refl, refl)
 
@@ -133,7 +101,7 @@ module _ {bytes : List ℕ} {c : CommonHeader} {end : ℕ} (f : CommonFound byte
   pub sees : (k : ℕ) → k ≤ end → part k (end - k) bytes ≡ drop k (take (header_length c) bytes)
   sees k inside = seen k (header_length c) end bytes f.ends inside
 
-  pub length_seen : (k : ℕ) → k ≤ end → length (drop k (take (header_length c) bytes)) ≡ end - k
+  length_seen : (k : ℕ) → k ≤ end → length (drop k (take (header_length c) bytes)) ≡ end - k
   length_seen k inside = ap length (sym (sees k inside)) ∙ length_part k (end - k) bytes (omega (arith, end_inside))
 
 -- an address header that was read after it, and where the path starts
@@ -151,60 +119,126 @@ module _ {bytes : List ℕ} {c : CommonHeader} {end : ℕ} {a : AddressHeader} {
       ap address_length known.header ∙ address_length_lem _ c.destination_kind c.source_kind in
       omega (arith, f.starts, known.inside, long, end_inside f.first, length_seen f.first 12 (end_inside f.first).0)
 
-  pub sees_path : part start (end - start) bytes ≡ drop (12 + address_length a) (take (header_length c) bytes)
+  sees_path : part start (end - start) bytes ≡ drop (12 + address_length a) (take (header_length c) bytes)
   sees_path = sees f.first start start_inside ∙ ap (λ (k : ℕ). drop k (take (header_length c) bytes)) f.starts
 
-  pub length-path : length (drop (12 + address_length a) (take (header_length c) bytes)) ≡ end - start
+  length-path : length (drop (12 + address_length a) (take (header_length c) bytes)) ≡ end - start
   length-path = ap length (sym sees_path) ∙ length_part start (end - start) bytes (omega (arith, start_inside, end_inside f.first))
 
-  pub length_rest : length (drop (header_length c) bytes) ≡ length bytes - end
+  length_rest : length (drop (header_length c) bytes) ≡ length bytes - end
   length_rest = length-drop (header_length c) bytes ∙ omega (arith, f.first.ends)
 
--- a path that was read after it
-pub record PathFound (bytes : List ℕ) (c : CommonHeader) (end : ℕ) (a : AddressHeader) (start : ℕ) (read : Extent) : Type 0 where
-  pub second : AddressFound bytes c end a start
-  pub path : read_dataplane c.path_type (drop (12 + address_length a) (take (header_length c) bytes)) ≡ Ok read
+-- WHAT IS HANDED BACK OF A PACKET, STAGE BY STAGE
 
-module _ {bytes : List ℕ} {c : CommonHeader} {end : ℕ} {a : AddressHeader} {start : ℕ} {read : Extent} (f : PathFound bytes c end a start read) where
-  pub left_over : (read.length ≡ end - start → ⊥) → read_rest c bytes ≡ Err InconsistentPathLength
+-- the address header as a call sees it: up to where the headers end, with byte 9 for the kinds
+abbrev address_seen : List ℕ → ℕ → Result AddressHeader DecodeError
+address_seen bytes end = read_address (part 12 (end - 12) bytes) (get_or bytes 9 0 / 16) (get_or bytes 9 0 % 16)
+
+-- the path as a call sees it
+abbrev path_seen : List ℕ → ℕ → ℕ → ℕ → Result Extent DecodeError
+path_seen bytes end type start = read_dataplane type (part start (end - start) bytes)
+
+module _ (bytes : List ℕ) {c : CommonHeader} {end : ℕ} (common : read_common bytes ≡ Ok c) (ends : end ≡ min (header_length c) (length bytes)) where
+  -- the common header was read, and the headers end at `end`
+  first : CommonFound bytes c end
+  first = record { common = common; ends = ends }
+
+  pub reaches : (12 ≤ end) × (end ≤ length bytes)
+  reaches = end_inside first
+
+  -- what is seen there is what the definition reads
+  same_address : address_seen bytes end ≡ read_address (drop 12 (take (header_length c) bytes)) c.destination_kind c.source_kind
+  same_address = rw (sees first 12 (end_inside first).0, (kinds_read first).0, (kinds_read first).1) refl
+
+  -- an address header that is refused
+  pub address_stops : {error : DecodeError} → address_answer (address_seen bytes end) ≡ Err error
+      → packet_answer (read_rest c bytes) ≡ Err error
   unfolding read_rest
-  left_over other = rw (f.second.address, f.path, ne_eqb _ _ (λ same. other (same ∙ length-path f.second)))
+  address_stops h = let stopped = sym same_address ∙ mapped_refused _ (address_seen bytes end) h in rw stopped
 
-  module _ (whole : read.length ≡ end - start) where
-    fills : length (drop (12 + address_length a) (take (header_length c) bytes)) ≡ read.length
-    fills = length-path f.second ∙ sym whole
+  module _ {x : AddressHeaderRead} (address : address_answer (address_seen bytes end) ≡ Ok x) where
+    -- one that is read
+    second : AddressFound bytes c end x.header (12 + x.length)
+    second =
+        let read = mapped_ok _ (address_seen bytes end) address in
+        subst (λ (y : AddressHeaderRead). AddressFound bytes c end y.header (12 + y.length)) (same_value read.then)
+        (record { first = first; address = sym same_address ∙ read.first; starts = refl })
 
-    pub payload_short : length bytes - end < c.payload_length → read_rest c bytes ≡ Err PacketEmptyOrTruncated
+    pub starts_inside : 12 + x.length ≤ end
+    starts_inside = start_inside second
+
+    same_path : path_seen bytes end c.path_type (12 + x.length)
+        ≡ read_dataplane c.path_type (drop (12 + address_length x.header) (take (header_length c) bytes))
+    same_path = ap (read_dataplane c.path_type) (sees_path second)
+
+    -- a path that is refused
+    pub path_stops : {error : DecodeError} → path_seen bytes end c.path_type (12 + x.length) ≡ Err error
+        → packet_answer (read_rest c bytes) ≡ Err error
     unfolding read_rest
-    payload_short few =
-        let short : length (drop (header_length c) bytes) < c.payload_length = rw (length_rest f.second) few in
-        rw (f.second.address, f.path, eq-eqb _ _ (sym fills), lt-leb _ _ short)
+    path_stops h = let stopped = sym same_path ∙ h in rw (second.address, stopped)
 
-    -- a packet whose path fills the headers and whose payload is there
-    pub packet_split : c.payload_length ≤ length bytes - end
-        → record {
-          answer = Accepted;
-          common = c;
-          address = a;
-          path = read.path;
-          path_part = record { start = start; len = read.length };
-          payload_part = record { start = end; len = c.payload_length };
-        }
-        ≡ packet_answer (read_rest c bytes)
-    unfolding read_rest packet_answer path_part payload_part
-    packet_split room =
-        let fits : c.payload_length ≤ length (drop (header_length c) bytes) = rw (length_rest f.second) room in
-        let sum : start + read.length ≡ end = omega (arith, start_inside f.second, whole) in
-        rw (
-          f.second.address,
-          f.path,
-          eq-eqb _ _ (sym fills),
-          le-leb _ _ fits,
-          fills,
-          length-take-le c.payload_length (drop (header_length c) bytes) fits,
-          ← f.second.starts,
-          sum,
-        )
+    module _ {read : Extent} (path : path_seen bytes end c.path_type (12 + x.length) ≡ Ok read) where
+      third : read_dataplane c.path_type (drop (12 + address_length x.header) (take (header_length c) bytes)) ≡ Ok read
+      third = sym same_path ∙ path
+
+      -- bytes are left of the headers, or they are too few
+      pub left_over : (read.length ≡ end - (12 + x.length) → ⊥) → packet_answer (read_rest c bytes) ≡ Err InconsistentPathLength
+      unfolding read_rest
+      left_over other = rw (second.address, third, ne_eqb _ _ (λ same. other (same ∙ length-path second)))
+
+      module _ (whole : read.length ≡ end - (12 + x.length)) where
+        fills : length (drop (12 + address_length x.header) (take (header_length c) bytes)) ≡ read.length
+        fills = length-path second ∙ sym whole
+
+        -- the path fills the headers, and the payload is cut
+        pub payload_short : length bytes - end < c.payload_length → packet_answer (read_rest c bytes) ≡ Err PacketEmptyOrTruncated
+        unfolding read_rest
+        payload_short few =
+            let short : length (drop (header_length c) bytes) < c.payload_length = rw (length_rest second) few in
+            rw (second.address, third, eq-eqb _ _ (sym fills), lt-leb _ _ short)
+
+        -- the path fills the headers, and the payload is there
+        pub all_there : c.payload_length ≤ length bytes - end
+            → packet_answer (read_rest c bytes)
+            ≡ Ok (record {
+              common = c;
+              address = x.header;
+              path = read.path;
+              path_part = record { start = 12 + x.length; len = read.length };
+              payload_part = record { start = end; len = c.payload_length };
+            })
+        unfolding read_rest raw_packet path_part payload_part
+        all_there room =
+            let fits : c.payload_length ≤ length (drop (header_length c) bytes) = rw (length_rest second) room in
+            let sum : 12 + x.length + read.length ≡ end = omega (arith, starts_inside, whole) in
+            rw (
+              second.address,
+              third,
+              eq-eqb _ _ (sym fills),
+              le-leb _ _ fits,
+              fills,
+              length-take-le c.payload_length (drop (header_length c) bytes) fits,
+              ← second.starts,
+              sum,
+            )
+
+pub ruleset stages = (reaches, address_stops, starts_inside, path_stops, left_over, payload_short, all_there)
+
+-- a capture: what is handed back beside its packet
+module _ (bytes : List ℕ) where
+  pub capture_handed : {packet : ScionPacketRaw} → packet_answer (read_capture bytes) ≡ Ok packet
+      → capture_answer bytes ≡ Ok (record { packet = packet; short = ltb (length bytes) (header_length packet.common) })
+  unfolding capture_answer raw_packet is_short
+  capture_handed h =
+      let read = mapped_ok raw_packet (read_capture bytes) h in
+      rw read.first
+      (ap (λ (x : ScionPacketRaw). Ok (record { packet = x; short = ltb (length bytes) (header_length x.common) })) (same_value read.then))
+
+  pub capture_stops : {error : DecodeError} → packet_answer (read_capture bytes) ≡ Err error → capture_answer bytes ≡ Err error
+  unfolding capture_answer
+  capture_stops h = rw (mapped_refused raw_packet (read_capture bytes) h) refl
+
+pub ruleset captured = (capture_handed, capture_stops)
 
 -- A PACKET OR CAPTURE THAT WAS READ
 
@@ -264,7 +298,7 @@ module _ {bytes : List ℕ} {p : Packet} (s : Split bytes p) where
   pub where_found : AddressFound bytes p.common (min (header_length p.common) (length bytes)) p.address (12 + address_length p.address)
   where_found = record { first = record { common = s.common; ends = refl }; address = s.address; starts = refl }
 
-  pub payload_start : 12 + address_length p.address + length p.path_bytes ≡ min (header_length p.common) (length bytes)
+  payload_start : 12 + address_length p.address + length p.path_bytes ≡ min (header_length p.common) (length bytes)
   payload_start = omega (arith, start_inside where_found, ap length s.path_is ∙ length-path where_found)
 
   -- its headers are the first 4 × factor bytes, or all there are

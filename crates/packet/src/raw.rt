@@ -50,6 +50,7 @@ fn header_end(common: CommonHeader, len: usize) -> usize
 
 impl ScionPacketRaw {
     // Splits what follows the common header.
+    #[tactic(auto, using(crate::proofs::RawLaws::stages))]
     fn rest(common: CommonHeader, bytes: &[u8]) -> Result<ScionPacketRaw, DecodeError>
         requires { read_common bytes.now ≡ Ok common }
         ensures { result ≡ spec.packet_answer (spec.read_rest common bytes.now) }
@@ -82,6 +83,7 @@ impl ScionPacketRaw {
     }
 
     // Splits the packet that begins `bytes`, or the capture; the bytes after its payload are no part of it.
+    #[tactic(auto, using(crate::proofs::RawLaws::splits))]
     pub fn split(bytes: &[u8], capture: bool) -> Result<ScionPacketRaw, DecodeError>
         ensures { result ≡ spec.packet_answer (spec.reader_of capture bytes.now) }
     {
@@ -100,6 +102,7 @@ impl ScionPacketRaw {
     }
 
     // Splits the capture that begins `bytes`, short or not.
+    #[tactic(auto, using(crate::proofs::RawLaws::captured))]
     pub fn decode_capture(bytes: &[u8]) -> Result<CaptureRead, DecodeError>
         ensures { result ≡ spec.capture_answer bytes.now }
     {
