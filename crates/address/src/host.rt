@@ -5,7 +5,8 @@ ghost use Rattle.address.specs.Host.{host_type_of, host_type_number, type_of_hos
 
 use crate::service::ServiceAddr;
 
-// An IPv4 or IPv6 host, whose bytes stand beside it, or a service.
+// An IPv4 or IPv6 host, or a service. The bytes stand beside it: `ScionAddr::new` and `set_host` promise to hand all sixteen on,
+// whatever the host (`address_of`, `with_host`), which four bytes in a variant could not.
 #[derive(Clone, Copy, Debug, PartialEq, Eq, Hash)]
 pub enum HostAddr {
     V4,

@@ -50,7 +50,7 @@ pub struct AddressHeaderRead {
     pub length: usize,
 }
 
-// A host as it is on the wire: its kind, and sixteen bytes that begin with its own.
+// A host as it is on the wire: its kind, a number that may be any, and sixteen bytes that begin with its own.
 #[derive(Clone, Copy, Debug, PartialEq, Eq, Hash)]
 pub struct WireHost {
     pub kind: u8,

@@ -8,7 +8,8 @@ ghost use Rattle.wire_encoding.specs.Result.{done, or_else};
 use errors::packet_error::{DecodeError, EncodeError};
 use wire_encoding::read::{get_or_zero, wide};
 
-// Every field, whatever its value. The host kinds are of 4 bits, as the version; the flow is of 20.
+// Every field, whatever its value: path type and host kinds are numbers, since a reader takes those that have no name too, and
+// `common_at` and `common_bytes` speak of them. The host kinds are of 4 bits, as the version; the flow is of 20.
 #[derive(Clone, Copy, Debug, PartialEq, Eq, Hash)]
 pub struct CommonHeader {
     pub version: u8,

@@ -9,7 +9,7 @@ use errors::packet_error::EncodeError;
 use packet_address_header::AddressHeader;
 use packet_common_header::{CommonHeader, fields_fit};
 
-// The headers of a packet but for its path, which stands beside them. The host kinds are the hosts' own. Factor and payload
+// The headers of a packet but for its path, which stands beside them; its type is the byte of the wire, which may be any. The host kinds are the hosts' own. Factor and payload
 // length may be any number: the encoder tests them.
 #[derive(Clone, Copy, Debug, PartialEq, Eq, Hash)]
 pub struct ScionHeaders {

@@ -22,7 +22,8 @@ pub struct Extent {
     pub length: usize,
 }
 
-// A path by its type byte: 0 empty, 1 standard, any other opaque. The path's bytes stand beside it.
+// A path by its type byte: 0 empty, 1 standard, any other opaque. The path's bytes stand beside it. The type is the byte of the wire,
+// which may be any: the contracts of all calls and the theorems on `read_dataplane` speak of that number.
 #[derive(Clone, Copy, Debug, PartialEq, Eq, Hash)]
 pub struct DataplanePath {
     pub path_type: u8,

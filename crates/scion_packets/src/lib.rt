@@ -16,6 +16,8 @@ use path::standard::{Part, StandardPath};
 use scion_paths::{ScionAnswer, decoded_out};
 use wire_encoding::read::wide;
 
+// The structs are C's, field by field (include/scion_proto.h): there kinds, types and refusals are numbers, beside zeros.
+
 // A host: its kind on the wire, a service's number and padding, or the first bytes of `bytes`.
 #[repr(C)]
 #[derive(Clone, Copy)]

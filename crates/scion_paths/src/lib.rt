@@ -16,6 +16,8 @@ use path_fields::{HopField, InfoField};
 use path_interfaces::InterfaceAt;
 use path_moves::WalkAnswer;
 
+// The structs are C's, field by field (include/scion_proto.h): there a refusal is a number, beside zeros.
+
 // 0 where the call was carried out, else the number of the refusal; the value is 0 unless the number is 2 or 3.
 #[repr(C)]
 #[derive(Clone, Copy)]

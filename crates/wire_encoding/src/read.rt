@@ -6,7 +6,8 @@ ghost use Rattle.wire_encoding.specs.Result.{or_else};
 
 use crate::number::Number;
 
-// A byte as an index or a count, with its bound for the caller's proof.
+// A byte as an index or a count. Its bound stands in the contract, since a field of a struct that is passed brings none of its own;
+// `usize::from` promises none.
 pub fn wide(byte: u8) -> usize
     ensures { (result ≡ byte) × (result < 256) }
 {
