@@ -36,6 +36,7 @@ pub struct PathMetaHeader {
 }
 
 // Field n of the six fields of a meta header: 2 bits, then five times 6.
+#[tactic(auto, unfolding(crate::specs::MetaHeader::nth_field))]
 fn nth_field(fields: u32, n: u32) -> u8
     requires { n ≤ 5 }
     ensures { result ≡ spec.nth_field fields n }
@@ -52,6 +53,7 @@ fn fits<const BITS: u32>(number: u8) -> bool
 }
 
 // The header of a path of these lengths, its pointers at the start.
+#[tactic(auto, unfolding(crate::specs::Reversal::at_start))]
 fn at_start(first: u8, second: u8, third: u8) -> PathMetaHeader
     ensures { result ≡ reversal.at_start (first ∷ second ∷ third ∷ []) }
 {
@@ -67,6 +69,7 @@ impl PathMetaHeader {
     pub const LENGTH: usize = 4;
 
     // I, the number of info fields: the lengths before the first zero.
+    #[tactic(auto, unfolding(crate::specs::MetaHeader::info_fields_count))]
     pub fn info_fields_count(self) -> usize
         ensures { (result ≡ spec.info_fields_count self) × (result ≤ 3) }
     {
@@ -84,6 +87,7 @@ impl PathMetaHeader {
     }
 
     // N, the number of hop fields: the sum of the lengths.
+    #[tactic(auto, unfolding(crate::specs::MetaHeader::hop_fields_count))]
     pub fn hop_fields_count(self) -> usize
         ensures { (result ≡ spec.hop_fields_count self) × (result ≤ 765) }
     {
@@ -92,6 +96,7 @@ impl PathMetaHeader {
     }
 
     // The number of interfaces by the header alone; a peering path has two more.
+    #[tactic(auto, using(crate::proofs::MetaHeader::info_le_hop), unfolding(crate::specs::MetaHeader::interfaces_count))]
     pub fn interfaces_count(self) -> usize
         ensures { (result ≡ spec.interfaces_count self) × (result ≤ 1530) }
     {
@@ -99,6 +104,7 @@ impl PathMetaHeader {
     }
 
     // The segment of link `link`, where links are counted along the path.
+    #[tactic(auto, unfolding(crate::specs::MetaHeader::segment_of_link))]
     fn segment_of_link(self, link: usize) -> usize
         requires { link < 765 }
         ensures { (result ≡ spec.segment_of_link self link) × (result ≤ 2) }
@@ -157,6 +163,7 @@ impl PathMetaHeader {
     }
 
     // The length of the whole path in bytes.
+    #[tactic(auto, unfolding(crate::specs::MetaHeader::path_length))]
     pub fn encoded_path_length(self) -> usize
         ensures { (result ≡ spec.path_length self) × (result ≤ 9208) }
     {
@@ -164,6 +171,7 @@ impl PathMetaHeader {
     }
 
     // The segment in which hop field `index` lies.
+    #[tactic(auto, unfolding(crate::specs::MetaHeader::segment_of))]
     pub fn segment_of(self, index: usize) -> usize
         ensures { (result ≡ spec.segment_of self index) × (result ≤ 2) }
     {
@@ -198,6 +206,7 @@ impl PathMetaHeader {
     }
 
     // The index of the first hop field of segment `k`: the sum of the lengths before it.
+    #[tactic(auto, unfolding(crate::specs::MetaHeader::first_hop_field, crate::specs::MetaHeader::hop_fields_count))]
     pub fn first_hop_field(self, k: usize) -> usize
         ensures { (result ≡ spec.first_hop_field self k) × (result ≤ 765) }
     {
@@ -214,6 +223,7 @@ impl PathMetaHeader {
     }
 
     // Whether the first length is not zero and no length follows a zero one.
+    #[tactic(auto, unfolding(crate::specs::MetaHeader::lengths_valid))]
     fn lengths_valid(self) -> bool
         ensures { result ≡ spec.lengths_valid self }
     {
@@ -228,6 +238,7 @@ impl PathMetaHeader {
     }
 
     // Whether the hop pointer lies in the path, in the segment that the info pointer names.
+    #[tactic(auto, unfolding(crate::specs::MetaHeader::hop_valid))]
     fn hop_valid(self) -> bool
         ensures { result ≡ spec.hop_valid self }
     {
@@ -239,6 +250,7 @@ impl PathMetaHeader {
     }
 
     // Whether the info pointer names one of the info fields.
+    #[tactic(auto, unfolding(crate::specs::MetaHeader::info_valid))]
     fn info_valid(self) -> bool
         ensures { result ≡ spec.info_valid self }
     {
@@ -263,6 +275,7 @@ impl PathMetaHeader {
     }
 
     // The header that a word spells, whatever its values.
+    #[tactic(auto, unfolding(crate::specs::MetaHeader::meta_of))]
     pub fn from_u32(fields: u32) -> PathMetaHeader
         ensures { result ≡ spec.meta_of fields }
     {
@@ -337,6 +350,7 @@ impl PathMetaHeader {
     }
 
     // The header of the reversed path: pointers and reserved bits zero, the I lengths in opposite order.
+    #[tactic(auto, unfolding(crate::specs::Reversal::reversed_meta, crate::specs::Reversal::reversed_lengths, crate::specs::MetaHeader::info_fields_count))]
     pub fn to_reversed(self) -> PathMetaHeader
         ensures { result ≡ reversal.reversed_meta self }
     {
