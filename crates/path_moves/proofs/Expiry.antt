@@ -1,7 +1,7 @@
 -- A move keeps the path's expiry, and so does a walk, move by move; the record that is handed back fits what is left.
 -- Assumes nothing.
 use Prim.Native.Nat.{ℕ}
-use mathlib.Core.Path.{refl, ap, ◌∙◌}
+use mathlib.Core.Path.{ap, ◌∙◌}
 use mathlib.Core.Bool.{not}
 use mathlib.Core.List.{List}
 use native.Mathlib.Omega.{arith}
@@ -14,9 +14,8 @@ use Rattle.path.specs.Dataplane.{KeepsExpiry}
 use Rattle.path.proofs.Kept.{keeps}
 use Rattle.path_moves.specs.Moves.{Way, is_last, iterate, move, moved, move_bytes, moved_meta, walk, walk_moves, MovesKeepExpiry}
 use Rattle.path_moves.specs.Rules.{movable}
-use Rattle.path_moves.proofs.Rules.{known}
+use Rattle.path_moves.proofs.Rules.{known, hop_inside}
 use Rattle.path_moves.proofs.Moves.{can_move, moved_known, expiry_moved, one_move}
-use Rattle.path_moves.proofs.Walks.{begin}
 use Rattle.path_moves.proofs.Sums.{after, walk_made}
 
 module _ (bytes : List ℕ) (small : Bytes bytes) where
@@ -35,7 +34,7 @@ module _ (bytes : List ℕ) (small : Bytes bytes) where
   walk_keeps limit left h =
       let read = stepped (movable 1 bytes) _ (mapped_ok (λ (w : Way). w.bytes) (walk 1 bytes limit) h).first in
       let m = read.value in
-      let there = after bytes small m read.first (walk_moves m limit) (omega (arith, (begin bytes m read.first refl).inside)) in
+      let there = after bytes small m read.first (walk_moves m limit) (omega (arith, hop_inside bytes read.first)) in
       let walking = there.walking in
       let made = walk_made bytes small m read.first limit in
       keeps bytes (iterate (walk_moves m limit) (moved 1) bytes) m there.left (known 1 bytes read.first).path

@@ -3,29 +3,34 @@
 use Prim.Native.Nat.{ℕ, zero, suc, ◌+◌, ◌*◌, ◌/◌, ◌%◌, ◌^◌, ◌≤◌, ◌<◌}
 use mathlib.Core.Path.{◌≡◌, refl, sym, ap, ◌∙◌}
 use mathlib.Core.Bool.{Bool, true, false, not, cond}
-use mathlib.Core.List.{List}
+use mathlib.Core.List.{List, ◌++◌}
 use native.Mathlib.Nat.{add-zero, add-suc}
 use native.Mathlib.Omega.{arith}
 use lib.Bits.{bit_xor, xor_zero_r}
-use lib.ListN.{length, take, get_or, set, length-set}
+use lib.ListN.{length, take, drop, get_or, set, length-set}
 use lib.Seq.{sets, drop-set-lt, length-sets, get_or-set_same, get_or-set_other}
-use borrow.Author.Tests.{ne_eqb}
-use Rattle.std.specs.Prelude.{Ok}
+use borrow.Author.Tests.{eq-eqb, ne_eqb}
+use Rattle.std.specs.Prelude.{Ok, Err}
 use Rattle.wire_encoding.proofs.Result.{held, stepped, same_value}
-use Rattle.wire_encoding.specs.BigEndian.{big_endian, bytes_of, placed}
+use Rattle.wire_encoding.specs.Result.{or_else}
+use Rattle.wire_encoding.specs.BigEndian.{big_endian, bytes_of, number_at}
 use Rattle.wire_encoding.proofs.Lists.{Bytes, sets_same}
-use Rattle.wire_encoding.proofs.BigEndian.{length_bytes_of, bytes_read}
-use Rattle.wire_encoding.proofs.Writes.{placed_is}
+use Rattle.wire_encoding.proofs.BigEndian.{length_bytes_of, bytes_read, or_zero_is}
+use Rattle.wire_encoding.proofs.Writes.{lent_run}
 use Rattle.path_fields.specs.Fields.{info_field_at}
 use Rattle.path_meta_header.specs.MetaHeader as meta
 use Rattle.path_meta_header.specs.declared.PathMetaHeader.{PathMetaHeader}
 use Rattle.path.specs.Standard.{info_at, both_peering, peering_path}
 use Rattle.path_least_expiry.specs.Expiry.{path_expiry}
 use Rattle.path_least_expiry.proofs.Kept.{expiry_same, expiry_lengths}
-use Rattle.path.specs.Dataplane.{path_of}
+use Rattle.errors.specs.declared.path_error.PathError.{PathError}
+use Rattle.errors.specs.declared.path_error.PathError.TheVariants.{AtLastHopField}
+use Rattle.path.specs.declared.standard.StandardPath.{StandardPath}
+use Rattle.path.specs.Dataplane.{path_of, path_answer}
+use Rattle.path.proofs.Reading.{path_of_lem}
 use Rattle.path.proofs.Kept.{path_kept}
 use Rattle.path_meta_header.proofs.MetaHeader.{Sound, counted, segment_below}
-use Rattle.path_moves.proofs.Rules.{Known, known}
+use Rattle.path_moves.proofs.Rules.{Known, known, hop_inside, movable_refused, movable_ok, goes_on, movable_one}
 use Rattle.path_moves.specs.declared.Position.{Position}
 use Rattle.path_moves.specs.declared.Moved.{Moved}
 use Rattle.path_moves.specs.Moves as spec
@@ -180,15 +185,19 @@ module _ (bytes : List ℕ) (m : PathMetaHeader) where
   some_peering_kept zero = refl
   some_peering_kept (suc n) = rw (some_peering_kept n, flags_kept n)
 
--- the second of the two writes of a move has room
-pub applied-placed : (bytes : List ℕ) (k : ℕ) (move : Moved) → meta.info_start k + 2 + 2 ≤ length bytes
-    → placed (set bytes 0 (pointers move.position)) (meta.info_start k + 2)
-    (bytes_of 2 (bit_xor (big_endian 2 bytes (meta.info_start k + 2)) move.change))
+-- the two bytes of the accumulator, lent and written
+pub applied_lent : (bytes : List ℕ) (k : ℕ) (move : Moved) → meta.info_start k + 4 ≤ length bytes
+    → {n : ℕ} → n ≡ or_else (number_at 2 bytes (meta.info_start k + 2)) 0
+    → {now : List ℕ} → now ≡ bytes_of 2 (bit_xor n move.change)
+    → take (meta.info_start k + 2) (set bytes 0 (pointers move.position))
+    ++ (now ++ drop 2 (drop (meta.info_start k + 2) (set bytes 0 (pointers move.position))))
     ≡ spec.applied bytes k move
 unfolding spec.applied
-applied-placed bytes k move room =
-    let number = bit_xor (big_endian 2 bytes (meta.info_start k + 2)) move.change in
-    placed_is (set bytes 0 (pointers move.position)) (meta.info_start k + 2) (bytes_of 2 number) 2 (length_bytes_of 2 number) (simp length-set room)
+applied_lent bytes k move room {n} read e =
+    let number = bit_xor n move.change in
+    let pointed = set bytes 0 (pointers move.position) in
+    rw (e, ← or_zero_is 2 bytes (meta.info_start k + 2) (omega arith), ← read)
+    (lent_run (bytes_of 2 number) pointed (meta.info_start k + 2) 2 (length_bytes_of 2 number) (simp length-set (omega arith)))
 
 -- A PATH THAT CAN BE MOVED
 
@@ -224,11 +233,24 @@ module _ (bytes : List ℕ) (m : PathMetaHeader) (can : spec.CanMove bytes m) wh
         whole = path.whole;
       }
 
+  -- the info field that it points to is there
+  pub info_there : meta.info_start m.current_info_field + 8 ≤ length bytes
+  info_there = let s = standing in omega arith
+
   -- the same of a position that is the header's own
-  pub standing_at : {p : Position} → p ≡ spec.position_of m
-      → Standing bytes m × (p.current_info_field ≡ m.current_info_field) × (p.current_hop_field ≡ m.current_hop_field)
-  unfolding spec.position_of
-  standing_at e = (standing, ap (λ (p : Position). p.current_info_field) e, ap (λ (p : Position). p.current_hop_field) e)
+  module _ {p : Position} (e : p ≡ spec.position_of m) where
+    pub pointed_hop : p.current_hop_field + 1 < 64
+    unfolding spec.position_of
+    pointed_hop = let s = standing in omega (arith, ap (λ (q : Position). q.current_hop_field) e)
+
+    pub pointed_info : meta.info_start p.current_info_field + 8 ≤ length bytes
+    unfolding spec.position_of
+    pointed_info = let s = standing in omega (arith, ap (λ (q : Position). q.current_info_field) e)
+
+    -- and so is every hop field up to the next one
+    pub next_there : meta.hop_start m (p.current_hop_field + 1) + 12 ≤ length bytes
+    unfolding spec.position_of
+    next_there = let s = standing in omega (arith, ap (λ (q : Position). q.current_hop_field) e)
 
   abbrev move : Moved
   move = spec.move_from bytes m (spec.position_of m)
@@ -279,6 +301,10 @@ module _ (bytes : List ℕ) (m : PathMetaHeader) (can : spec.CanMove bytes m) wh
   peering-moved =
       rw (counts_kept.0, some_peering_kept bytes m (meta.info_fields_count m), flags_kept bytes m 0, flags_kept bytes m 1) able.peering
 
+  -- what is applied to its bytes
+  pub applied_is : Bytes bytes → spec.applied bytes m.current_info_field move ≡ after
+  applied_is b = let s = standing in sym (move-applied bytes m b (omega arith))
+
   -- so it can be moved
   pub moved_known : Bytes bytes → Known after left
   moved_known b =
@@ -311,6 +337,40 @@ module _ (bytes : List ℕ) (m : PathMetaHeader) (can : spec.CanMove bytes m) wh
   pub moved_is : spec.moved 1 bytes ≡ after
   unfolding spec.moved
   moved_is = rw one_move
+
+-- what `Position::moved` cites
+pub ruleset pointers_there = (pointed_hop, pointed_info, next_there)
+
+-- what `step` cites: where a path that can be moved stands, and what is applied to it
+pub ruleset applies = (info_there, fits, applied_is)
+
+-- what a single move does where `movable` refuses the path, and where it hands back a record
+pub move_refused : (type : ℕ) (bytes : List ℕ) {error : PathError} → path_answer (path_of type bytes) (rules.movable type bytes) ≡ Err error
+    → spec.move type bytes ≡ Err error
+unfolding spec.move
+move_refused type bytes h = rw (movable_refused type bytes h)
+
+module _ (type : ℕ) (bytes : List ℕ) {path : StandardPath} (h : path_answer (path_of type bytes) (rules.movable type bytes) ≡ Ok path) where
+  pub last_move : path.meta_header.current_hop_field + 1 ≡ meta.hop_fields_count path.meta_header → spec.move type bytes ≡ Err AtLastHopField
+  unfolding spec.move spec.is_last
+  last_move last = rw ((movable_ok type bytes h).0, eq-eqb _ _ last)
+
+  module _ (other : path.meta_header.current_hop_field + 1 ≡ meta.hop_fields_count path.meta_header → ⊥) where
+    moves_on : spec.CanMove bytes path.meta_header
+    moves_on = can_move bytes path.meta_header (movable_one type bytes h) other
+
+    pub move_made : spec.move type bytes ≡ Ok (spec.move_bytes bytes path.meta_header)
+    move_made = rw (goes_on type bytes h).0 (one_move bytes path.meta_header moves_on)
+
+    pub path_made : Bytes bytes
+        → path_of type (spec.move_bytes bytes path.meta_header) ≡ record { meta_header = spec.moved_meta bytes path.meta_header; expiry = path.expiry }
+    path_made b =
+        let known = goes_on type bytes h in
+        let stored = ap (λ (p : StandardPath). p.expiry) (sym (path_of_lem bytes path.meta_header (able bytes path.meta_header moves_on).path) ∙ known.2) in
+        rw (known.0, ← stored) (path-moved bytes path.meta_header moves_on b)
+
+-- what `single_move` cites
+pub ruleset single_moves = (move_refused, last_move, movable_one, hop_inside, move_made, path_made)
 
 -- EVERY PATH
 

@@ -7,21 +7,20 @@ use mathlib.Core.Bool.{Bool, true, false, cond, not, ◌&&◌, ◌||◌}
 use mathlib.Core.List.{List}
 use native.Mathlib.Omega.{arith}
 use lib.Dec.{leb, eqb}
+use lib.ListN.{length}
 use borrow.Author.Tests.{le-leb, leb-true, eq-eqb, ne_eqb, eqb-true, eqb-false}
-use Rattle.std.specs.Prelude.{Ok}
-use Rattle.wire_encoding.proofs.Result.{held, stepped}
+use Rattle.std.specs.Prelude.{Ok, Err}
+use Rattle.wire_encoding.proofs.Result.{same_value, held, stepped, mapped_ok, mapped_refused}
 use Rattle.wire_encoding.proofs.Lists.{by_lt}
 use Rattle.path_fields.specs.Fields.{constructed_dir, peering}
 use Rattle.path_fields.specs.declared.InfoField.{InfoField}
-use Rattle.path_meta_header.specs.MetaHeader.{meta_of, info_fields_count, hop_fields_count}
+use Rattle.path_meta_header.specs.MetaHeader.{info_fields_count, hop_fields_count, path_length}
 use Rattle.path_meta_header.specs.declared.PathMetaHeader.{PathMetaHeader}
-use Rattle.errors.specs.declared.path_error.Answer.TheVariants.{Accepted}
-use Rattle.path_least_expiry.specs.Expiry.{path_expiry}
-use Rattle.path.specs.Standard.{info_at, path_under}
+use Rattle.errors.specs.declared.path_error.PathError.{PathError}
+use Rattle.path.specs.Standard.{info_at}
 use Rattle.path.specs.Dataplane.{standard, path_of, path_answer}
 use Rattle.path.specs.declared.standard.StandardPath.{StandardPath}
-use Rattle.path.specs.declared.dataplane.PathAnswer.{PathAnswer}
-use Rattle.path.proofs.Reading.{Readable, answer_value_lem, answer_path, standard-path, standard_type, standard_readable, standard_read}
+use Rattle.path.proofs.Reading.{Readable, standard-path, standard_type, standard_readable, standard_read}
 use Rattle.path.proofs.Peering.{two_segments}
 use Rattle.path_moves.specs.Rules.{owner_of, spared, some_peering, peering_allowed, movable}
 
@@ -52,32 +51,41 @@ module _ (type : ℕ) (bytes : List ℕ) {m : PathMetaHeader} (h : movable type 
       let same : read.value ≡ m = cc in
       rw (← same) (record { path = standard_readable bytes type read.first; few = leb-true _ _ few.0; peering = peering.0 })
 
+-- its hop field is one of 64 at most
+pub hop_inside : (bytes : List ℕ) {m : PathMetaHeader} → movable 1 bytes ≡ Ok m → (m.current_hop_field < hop_fields_count m) × (hop_fields_count m ≤ 64)
+hop_inside bytes h = let k = known 1 bytes h in (k.path.sound_meta.hop, k.few)
+
 -- the other way round
 pub known_movable : (bytes : List ℕ) (m : PathMetaHeader) → Known bytes m → movable 1 bytes ≡ Ok m
 unfolding movable
 known_movable bytes m k = rw (standard_read bytes m k.path, le-leb _ _ k.few, k.peering)
 
--- as a function that called `movable` knows it
-module _ (type : ℕ) (bytes : List ℕ) {r : PathAnswer} (is : r ≡ path_answer (path_of type bytes) (movable type bytes)) (h : r.answer ≡ Accepted) where
-  -- its record is that of the path
-  movable-path : (m : PathMetaHeader) → movable type bytes ≡ Ok m → r.path ≡ path_under bytes m
-  movable-path m able =
-      answer_path (path_of type bytes) (movable type bytes) is (meta_of 0) h ∙ standard-path type bytes (movable-standard type bytes able)
+-- a standard path is whole
+pub standard_whole : (type : ℕ) (bytes : List ℕ) {m : PathMetaHeader} → standard type bytes ≡ Ok m → path_length m ≤ length bytes
+standard_whole type bytes h = (standard_readable bytes type h).whole
 
-  pub movable_ok : movable type bytes ≡ Ok r.path.meta_header
-  movable_ok =
-      let able = answer_value_lem (path_of type bytes) (movable type bytes) is (meta_of 0) h in
-      able ∙ ap Ok (sym (ap (λ (path : StandardPath). path.meta_header) (movable-path _ able)))
+-- what a caller of `movable` knows
+module _ (type : ℕ) (bytes : List ℕ) where
+  pub movable_refused : {error : PathError} → path_answer (path_of type bytes) (movable type bytes) ≡ Err error → movable type bytes ≡ Err error
+  unfolding path_answer
+  movable_refused h = mapped_refused (λ _. path_of type bytes) (movable type bytes) h
 
-  pub goes_on : (type ≡ 1) × (movable 1 bytes ≡ Ok r.path.meta_header) × (r.path.expiry ≡ path_expiry bytes r.path.meta_header)
-  goes_on =
-      let one = type_one type bytes movable_ok in
-      (one, rw one at movable_ok, ap (λ (path : StandardPath). path.expiry) (movable-path _ movable_ok))
+  module _ {path : StandardPath} (h : path_answer (path_of type bytes) (movable type bytes) ≡ Ok path) where
+    -- the record is that of the path, and holds the header that was read
+    pub movable_ok : (movable type bytes ≡ Ok path.meta_header) × (path_of type bytes ≡ path)
+    unfolding path_answer
+    movable_ok =
+        let able = mapped_ok (λ _. path_of type bytes) (movable type bytes) h in
+        let same = same_value able.then in
+        let header = ap (λ (p : StandardPath). p.meta_header) (sym (standard-path type bytes (movable-standard type bytes able.first)) ∙ same) in
+        (able.first ∙ ap Ok header, same)
 
-  pub goes_on_stored : r.path.expiry ≡ (path_of 1 bytes).expiry
-  goes_on_stored =
-      let stored = ap (λ (path : StandardPath). path.expiry) (answer_path (path_of type bytes) (movable type bytes) is (meta_of 0) h) in
-      rw goes_on.0 at stored
+    -- so the path is a standard one
+    pub goes_on : (type ≡ 1) × (movable 1 bytes ≡ Ok path.meta_header) × (path_of 1 bytes ≡ path)
+    goes_on = let one = type_one type bytes movable_ok.0 in (one, rw one at movable_ok.0, rw one at movable_ok.1)
+
+    pub movable_one : movable 1 bytes ≡ Ok path.meta_header
+    movable_one = goes_on.1
 
 -- PEERING
 

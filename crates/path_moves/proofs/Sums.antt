@@ -4,7 +4,6 @@
 use Prim.Native.Nat.{ℕ, zero, suc, ◌+◌, ◌-◌, ◌*◌, ◌<◌, min}
 use mathlib.Core.Path.{◌≡◌, refl, sym, ap, ◌∙◌, subst}
 use mathlib.Core.List.{List}
-use native.Mathlib.Nat.{add-zero, add-suc}
 use native.Mathlib.Numerals.{add-one}
 use native.Mathlib.Omega.{arith}
 use lib.Bits.{bit_xor}
@@ -20,7 +19,7 @@ use Rattle.path_moves.specs.Moves.{CanMove, CountsAdd, Way, WalksAdd, applied, i
 use Rattle.path_moves.specs.Moves.{position_of, walk, walk_count, walk_moves, walked}
 use Rattle.path_moves.specs.Rules.{movable}
 use Rattle.path_moves.proofs.Moves.{standing, fits, move-applied, moved_is, iterate_add}
-use Rattle.path_moves.proofs.Rules.{type_one}
+use Rattle.path_moves.proofs.Rules.{type_one, hop_inside}
 use Rattle.path_moves.proofs.Walks.{Walking, begin, can, next, way}
 
 -- the walks of a and then of b moves make as many as the walk of a + b
@@ -60,12 +59,12 @@ pub record Made (bytes : List ℕ) (m : PathMetaHeader) (limit : ℕ) : Type 0 w
 -- the path after n moves
 pub record After (bytes : List ℕ) (m : PathMetaHeader) (n : ℕ) : Type 0 where
   pub left : PathMetaHeader
-  pub walking : Walking bytes m (iterate n (moved 1) bytes) left (m.current_hop_field + n) n
+  pub walking : Walking bytes m (iterate n (moved 1) bytes) left n
   pub kept : Bytes (iterate n (moved 1) bytes)
 
 module _ (bytes : List ℕ) (small : Bytes bytes) (m : PathMetaHeader) (able : movable 1 bytes ≡ Ok m) where
   pub after : (n : ℕ) → m.current_hop_field + n < hop_fields_count m → After bytes m n
-  after zero h = record { left = m; walking = begin bytes m able (add-zero _); kept = small }
+  after zero h = record { left = m; walking = begin bytes m able; kept = small }
   after (suc n) h = go (after n (omega arith))
     where
       go : After bytes m n → After bytes m (suc n)
@@ -78,8 +77,7 @@ module _ (bytes : List ℕ) (small : Bytes bytes) (m : PathMetaHeader) (able : m
           record {
             left = moved_meta now at;
             walking =
-                rw (add-suc, ← add-one (m.current_hop_field + n), ← add-one n)
-                (next bytes m now at before.walking before.kept below refl step);
+                rw (← add-one n) (next bytes m now at before.walking before.kept below refl step);
             kept = rw step (bytes_moved now at c before.kept);
           }
 
@@ -102,11 +100,11 @@ module _ (bytes : List ℕ) (small : Bytes bytes) (m : PathMetaHeader) (able : m
   -- what the first walk leaves
   first : After bytes m (walk_moves m a)
   unfolding walk_moves
-  first = after bytes small m able (walk_moves m a) (omega (arith, (begin bytes m able refl).inside))
+  first = after bytes small m able (walk_moves m a) (omega (arith, hop_inside bytes able))
 
   moves_sum : walk_moves m (a + b) ≡ walk_moves m a + walk_moves first.left b
   unfolding walk_moves
-  moves_sum = let walk = first.walking in rw (walk.count, ← walk.here) (least-sum a b (hop_fields_count m - 1) m.current_hop_field)
+  moves_sum = let walk = first.walking in rw (walk.count, walk.gone) (least-sum a b (hop_fields_count m - 1) m.current_hop_field)
 
   sums_movable : CountAdds 1 bytes a b × BytesAdd 1 bytes a b
   sums_movable =

@@ -1,6 +1,6 @@
 -- Moves (the draft's processing at routers, seen from hop field to hop field): a single move, a walk, what they hand back, and what
 -- hop field i meets by the path alone. Move, walk, owner and spared are document 01's words.
-use Rattle.std.specs.Prelude.{ℕ, zero, suc, ◌+◌, ◌-◌, ◌*◌, ◌<◌, min, ◌≡◌, Bool, true, false, not, ◌&&◌, cond, List, [], length, get_or, set, eqb, Result, Ok}
+use Rattle.std.specs.Prelude.{ℕ, zero, suc, ◌+◌, ◌-◌, ◌*◌, ◌<◌, min, ◌≡◌, Bool, true, not, ◌&&◌, cond, List, length, get_or, set, eqb, Result, Ok}
 use Rattle.std.proofs.lemmas.List.Edits.{sets}
 use Rattle.std.specs.Int.Bits.{bit_xor}
 use Rattle.wire_encoding.specs.Result.{require, ◌>>◌, ◌>>=◌, mapped, or_else}
@@ -11,7 +11,7 @@ use Rattle.path_meta_header.specs.declared.PathMetaHeader.{PathMetaHeader}
 use Rattle.errors.specs.declared.path_error.PathError.{PathError}
 use Rattle.errors.specs.declared.path_error.PathError.TheVariants.{AtLastHopField}
 use Rattle.path.specs.Standard.{info_at}
-use Rattle.path.specs.Dataplane.{meta_header_of, path_of, path_left, KeepsExpiry}
+use Rattle.path.specs.Dataplane.{meta_header_of, path_of, KeepsExpiry}
 use Rattle.path_moves.specs.Rules.{owner_of, spared, movable}
 use Rattle.path_moves.specs.declared.Position.{Position}
 use Rattle.path_moves.specs.declared.Moved.{Moved}

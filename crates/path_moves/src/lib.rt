@@ -18,6 +18,7 @@ use wire_encoding::number::Number;
 use wire_encoding::read::{get_or_zero, wide};
 
 // Info field `k`, which is there.
+#[tactic(auto, using(path_fields::proofs::Fields::info_of_part))]
 fn info_field_at(bytes: &[u8], k: usize) -> InfoField
     requires { (info_start k + 8 ≤ length bytes.now) × (k < 256) }
     ensures { result ≡ info_at bytes.now k }
@@ -27,6 +28,7 @@ fn info_field_at(bytes: &[u8], k: usize) -> InfoField
 }
 
 // Whether peering is set on one of the first `count` info fields.
+#[tactic(auto, using(crate::proofs::Rules::some_peering_lem), unfolding(crate::specs::Rules::some_peering))]
 fn some_peering(bytes: &[u8], count: usize) -> bool
     requires { (info_start count ≤ length bytes.now) × (count ≤ 3) }
     ensures { result ≡ rules.some_peering bytes.now count }
@@ -40,6 +42,7 @@ fn some_peering(bytes: &[u8], count: usize) -> bool
 }
 
 // Whether peering is set on no info field, or the path is a peering path.
+#[tactic(auto, unfolding(crate::specs::Rules::peering_allowed, path::specs::Standard::peering_path, path_meta_header::specs::MetaHeader::path_length))]
 fn peering_allowed(bytes: &[u8], meta_header: PathMetaHeader) -> bool
     requires { path_length meta_header ≤ length bytes.now }
     ensures { result ≡ rules.peering_allowed bytes.now meta_header }
@@ -52,7 +55,7 @@ fn peering_allowed(bytes: &[u8], meta_header: PathMetaHeader) -> bool
 }
 
 // Reading, 8 for every type but 1, then 13 for too many hop fields and 14 for peering: where moves and walks begin.
-#[tactic(auto, using(path::proofs::Reading::answers_read), unfolding(crate::specs::Rules::movable, path::specs::Dataplane::path_answer))]
+#[tactic(auto, using(path::proofs::Reading::answers_read, crate::proofs::Rules::standard_whole), unfolding(crate::specs::Rules::movable, path::specs::Dataplane::path_answer))]
 pub fn movable(path: DataplanePath, bytes: &[u8]) -> Result<StandardPath, PathError>
     ensures { result
         ≡ path_answer (path_of path.path_type bytes.now) (rules.movable path.path_type bytes.now) }
@@ -69,6 +72,7 @@ pub fn movable(path: DataplanePath, bytes: &[u8]) -> Result<StandardPath, PathEr
 }
 
 // The owner of the move from hop field `hop` inside a segment: the hop field whose code the accumulator takes in.
+#[tactic(auto, unfolding(crate::specs::Rules::owner_of))]
 pub fn owner_of(info_field: InfoField, hop: u8) -> usize
     ensures { (result ≡ rules.owner_of info_field hop) × (result ≤ hop + 1) × (result ≤ 256) }
 {
@@ -80,6 +84,7 @@ pub fn owner_of(info_field: InfoField, hop: u8) -> usize
 }
 
 // Whether peering spares this owner: the last hop field of the first segment, and the first of the second.
+#[tactic(auto, unfolding(crate::specs::Rules::spared))]
 pub fn is_spared(info_field: InfoField, owner: usize, first_length: usize) -> bool
     ensures { result ≡ rules.spared info_field owner first_length }
 {
@@ -123,6 +128,7 @@ pub struct Walked {
 
 impl Position {
     // The pointers of a header.
+    #[tactic(auto, unfolding(crate::specs::Moves::position_of))]
     fn of(meta_header: PathMetaHeader) -> Position
         ensures { result ≡ spec.position_of meta_header }
     {
@@ -133,7 +139,7 @@ impl Position {
     }
 
     // The move from this position, which is the path's own and not its last.
-    #[tactic(auto, unfolding(crate::specs::Moves::move_from, crate::specs::Moves::change_of, crate::specs::Moves::takes_in))]
+    #[tactic(auto, using(crate::proofs::Moves::pointers_there, wire_encoding::proofs::BigEndian::or_zero_is), unfolding(crate::specs::Moves::move_from, crate::specs::Moves::change_of, crate::specs::Moves::takes_in))]
     fn moved(self, bytes: &[u8], meta_header: PathMetaHeader) -> Moved
         requires can_move { spec.CanMove bytes.now meta_header }
         requires self_value { self ≡ spec.position_of meta_header }
@@ -169,6 +175,7 @@ impl Position {
 }
 
 // The header with its pointers at another position.
+#[tactic(auto, unfolding(crate::specs::Moves::at_position))]
 fn at_position(meta_header: PathMetaHeader, position: Position) -> PathMetaHeader
     ensures { result ≡ spec.at_position meta_header position }
 {
@@ -180,6 +187,7 @@ fn at_position(meta_header: PathMetaHeader, position: Position) -> PathMetaHeade
 }
 
 // Writes a move out of segment `segment` to the path's bytes: the pointers, and the two bytes of its accumulator.
+#[tactic(auto, using(crate::proofs::Moves::applied_lent))]
 fn apply(bytes: &mut [u8], segment: usize, moved: Moved)
     requires segment_in_bounds { info_start segment + 4 ≤ length bytes.old }
     requires current_info_field_bound { (moved.position.current_info_field < 4) × (moved.position.current_hop_field < 64) }
@@ -193,6 +201,7 @@ fn apply(bytes: &mut [u8], segment: usize, moved: Moved)
 }
 
 // One move of a path that can be moved; hands back the header that it leaves.
+#[tactic(auto, using(crate::proofs::Moves::applies), unfolding(crate::specs::Moves::moved_meta))]
 fn step(bytes: &mut [u8], meta_header: PathMetaHeader) -> PathMetaHeader
     requires { spec.CanMove bytes.old meta_header }
     ensures value { result ≡ spec.moved_meta bytes.old meta_header }
@@ -205,6 +214,7 @@ fn step(bytes: &mut [u8], meta_header: PathMetaHeader) -> PathMetaHeader
 }
 
 // One move on lent bytes: the hop pointer gains 1, the info pointer names the new segment, the accumulator takes the owner's code in.
+#[tactic(auto, using(crate::proofs::Moves::single_moves), unfolding(crate::specs::Moves::moved, path::specs::Dataplane::written_answer))]
 pub fn single_move(path: DataplanePath, bytes: &mut [u8]) -> Result<StandardPath, PathError>
     ensures value { result ≡ written_answer path.path_type (spec.move path.path_type bytes.old) }
     ensures bytes_after { bytes.new ≡ spec.moved path.path_type bytes.old }
@@ -222,6 +232,7 @@ pub fn single_move(path: DataplanePath, bytes: &mut [u8]) -> Result<StandardPath
 }
 
 // Moves until the last hop field or the limit.
+#[tactic(auto, using(crate::proofs::Walks::walking), unfolding(crate::specs::Moves::walk_moves))]
 fn steps(bytes: &mut [u8], start: PathMetaHeader, limit: usize) -> Walked
     requires { rules.movable 1 bytes.old ≡ Ok start }
     ensures moves_value { result.moves ≡ spec.walk_moves start limit }
@@ -239,6 +250,7 @@ fn steps(bytes: &mut [u8], start: PathMetaHeader, limit: usize) -> Walked
 }
 
 // A walk on lent bytes: moves until the last hop field or the limit.
+#[tactic(auto, using(crate::proofs::Walks::walks), unfolding(crate::specs::Moves::walked, crate::specs::Moves::walk_answer, crate::specs::Moves::is_last))]
 pub fn walk(path: DataplanePath, bytes: &mut [u8], limit: usize) -> Result<WalkAnswer, PathError>
     ensures value { result ≡ spec.walk_answer path.path_type (spec.walk path.path_type bytes.old limit) }
     ensures bytes_after { bytes.new ≡ spec.walked path.path_type bytes.old limit }
