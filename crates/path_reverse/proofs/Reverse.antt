@@ -1,5 +1,4 @@
--- Laws of a reversed path: the parts of a field, the loop that writes records last one first, the size and the header of
--- what is written.
+-- Laws of a reversed path: a field, the loop that writes records last one first, the size and the header of what is written.
 -- Assumes nothing.
 use mathlib.Core.Path.{◌≡◌, refl, sym, ap, ap₂, ◌∙◌}
 use mathlib.Core.Bool.{Bool, true, false, cond}
@@ -12,6 +11,7 @@ use lib.Dec.{eqb}
 use lib.Bits.{bit_xor}
 use lib.ListN.{length, take, drop, get_or, set, length-append, length-drop}
 use lib.Seq.{sets, drop-drop, length-sets, length-take-le}
+use borrow.Rule.Slice.PartMut.{put_mid}
 use borrow.Author.Tests.{lt-ltb, ne_eqb}
 use Rattle.wire_encoding.specs.Result.{or_else}
 use Rattle.wire_encoding.specs.BigEndian.{big_endian, bytes_of, part, records}
@@ -35,7 +35,7 @@ use Rattle.path_reverse.specs.Copy.{copy}
 use Rattle.path_reverse.proofs.Copy.{put_in_front, into_enough, into_fewer, front_run}
 use Rattle.path_reverse.specs.Reverse.{reversed_records, flipped, same, reversed_under, reversed_path, reversed_bytes, reverse, Reversible}
 
--- THE PARTS OF A FIELD
+-- A FIELD
 
 -- what is written of a field is as long as the field
 abbrev pub Sized : (List ℕ → List ℕ) → Type 0
@@ -92,16 +92,16 @@ module _ (f : List ℕ → List ℕ) (sized : Sized f) (k : ℕ) where
       ∙ omega arith
 
 -- the loop: the records that are left, written to dst as it is now, give what is wanted
-module _ (f : List ℕ → List ℕ) (k : ℕ) (src : List ℕ) (from : ℕ) (goal : List ℕ) where
+module _ (f : List ℕ → List ℕ) (k : ℕ) (src : List ℕ) (from : ℕ) (dst₀ : List ℕ) (at count : ℕ) where
   pub record Left (dst : List ℕ) (to left : ℕ) : Type 0 where
-    pub writes : sets dst to (reversed_records f k left (drop from src)) ≡ goal
+    pub writes : sets dst to (reversed_records f k left (drop from src)) ≡ sets dst₀ at (reversed_records f k count (drop from src))
     pub in_src : from + left * k ≤ length src
     pub in_dst : to + left * k ≤ length dst
 
   -- the last of them is written where the next one goes
   pub step : (dst now : List ℕ) (to left : ℕ) → 0 < left → Left dst to left
       → (let at : ℕ = from + (left - 1) * k in now ≡ f (part at (at + k - at) src)) → length now ≡ length (part to (to + k - to) dst)
-      → Left (take to dst ++ (now ++ drop (to + k - to) (drop to dst))) (to + k) (left - 1)
+      → Left (put_mid to (to + k - to) dst now) (to + k) (left - 1)
   step dst now to zero h i e kept = elim h [ ]
   step dst now to (suc n) h i e kept =
       let more : suc n * k ≡ n * k + k = suc-mul n k in
@@ -112,8 +112,9 @@ module _ (f : List ℕ → List ℕ) (k : ℕ) (src : List ℕ) (from : ℕ) (go
       simp sub-one at e
       ∙ ap (λ (size : ℕ). f (part (from + n * k) size src)) (add-sub_cancel_left (from + n * k) k)
       ∙ ap (λ (bytes : List ℕ). f (take k bytes)) (sym (drop-drop (n * k) from src)) in
-      let written = lent_run now dst to (to + k - to) (size ∙ sym (add-sub_cancel_left to k)) (omega arith) in
-      let same-length : length (take to dst ++ (now ++ drop (to + k - to) (drop to dst))) ≡ length dst = ap length written ∙ simp length-sets in
+      let written : put_mid to (to + k - to) dst now ≡ sets dst to now =
+      lent_run now dst to (to + k - to) (size ∙ sym (add-sub_cancel_left to k)) (omega arith) in
+      let same-length = ap length written ∙ length-sets dst to now in
       simp sub-one (record {
         writes = ap (λ (d : List ℕ). sets d (to + k) rest) written ∙ written_after now rest dst to k size
             ∙ ap (λ (field : List ℕ). sets dst to (field ++ rest)) last
@@ -122,7 +123,7 @@ module _ (f : List ℕ → List ℕ) (k : ℕ) (src : List ℕ) (from : ℕ) (go
         in_dst = omega arith;
       })
 
-  pub done : (dst : List ℕ) (to left : ℕ) → left ≤ 0 → Left dst to left → dst ≡ goal
+  pub done : (dst : List ℕ) (to left : ℕ) → left ≤ 0 → Left dst to left → dst ≡ sets dst₀ at (reversed_records f k count (drop from src))
   unfolding reversed_records records flat_map
   done dst to zero h i = i.writes
   done dst to (suc _) h i = elim h [ ]

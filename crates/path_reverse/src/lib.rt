@@ -73,7 +73,14 @@ impl ReversedField for HopField {
 }
 
 // Writes `count` fields of `src` from `from` on to `dst` from `to` on, the last one first.
-fn reverse_fields<F: ReversedField>(src: &[u8], from: usize, dst: &mut [u8], to: usize, count: usize)
+#[tactic(auto, using(crate::proofs::Reverse::step, crate::proofs::Reverse::done))]
+fn reverse_fields<F: ReversedField>(
+    src: &[u8],
+    from: usize,
+    dst: &mut [u8],
+    to: usize,
+    count: usize,
+)
     requires { (from + count * F.LENGTH ≤ length src.now) × (to + count * F.LENGTH ≤ length dst.old) }
     ensures { dst.new ≡ sets dst.old to (spec.reversed_records F.reversed F.LENGTH count (drop from src.now)) }
 {
