@@ -8,7 +8,7 @@ use mathlib.Core.List.{List, [], ◌∷◌, ◌++◌, append-nil}
 use native.Mathlib.Omega.{arith}
 use lib.Dec.{eqb}
 use lib.ListN.{length, take, drop, drop_of_length-le}
-use lib.Seq.{length-take-le, take_all}
+use lib.Seq.{take_all}
 use borrow.Author.Tests.{eqb-true, eqb-false, eq-eqb, ne_eqb}
 use Rattle.std.specs.Prelude.{Result, Ok, Err}
 use Rattle.wire_encoding.specs.Result.{and_then, refusing}
@@ -23,8 +23,8 @@ use Rattle.path_meta_header.specs.declared.PathMetaHeader.{PathMetaHeader}
 use Rattle.path_meta_header.proofs.MetaHeader.{counted}
 use Rattle.path.specs.Standard.{read_record}
 use Rattle.path.specs.declared.dataplane.Extent.{Extent}
-use Rattle.path.specs.Dataplane.{unread, read_dataplane, dataplane_read, path_of, contents, written_answer}
-use Rattle.path.proofs.Reading.{no_record, length_inside, Readable}
+use Rattle.path.specs.Dataplane.{unread, read_dataplane, path_of, contents, written_answer}
+use Rattle.path.proofs.Reading.{no_record, length_front, Readable}
 use Rattle.path.proofs.Kept.{record_after}
 use Rattle.path_reverse.specs.Copy.{Written, into, copy, front, contents_after, written_path}
 use Rattle.path_reverse.specs.Reverse.{reversed_path, reversed_bytes, reverse}
@@ -174,8 +174,7 @@ module _ (call : Call) (written : Bytes) (c : Writes call written) where
 -- reading says no more bytes than there are
 own_long : (type : ℕ) (bytes : List ℕ) (read : Extent) → read_dataplane type bytes ≡ Ok read
     → length (own_bytes type read bytes) ≡ read.length
-unfolding dataplane_read
-own_long type bytes read h = length-take-le read.length bytes (rw h at (length_inside bytes type))
+own_long type bytes read h = length_front bytes type h
 
 reversed_long : (type : ℕ) (bytes : List ℕ) (read : Extent) → read_dataplane type bytes ≡ Ok read
     → length (reversed_bytes type read bytes) ≡ read.length

@@ -4,4 +4,5 @@ pub mod Reverse
 pub mod Reversed
 pub mod Twice
 pub mod Expiry
+pub mod Calls
 pub mod Destination

@@ -1,5 +1,4 @@
--- Laws of a reversed path: the parts of a field, the loop that writes records last one first, the size and the header of
--- what is written.
+-- Laws of a reversed path: a field, the loop that writes records last one first, the size and the header of what is written.
 -- Assumes nothing.
 use mathlib.Core.Path.{◌≡◌, refl, sym, ap, ap₂, ◌∙◌}
 use mathlib.Core.Bool.{Bool, true, false, cond}
@@ -11,17 +10,20 @@ use native.Mathlib.Omega.{arith}
 use lib.Dec.{eqb}
 use lib.Bits.{bit_xor}
 use lib.ListN.{length, take, drop, get_or, set, length-append, length-drop}
-use lib.Seq.{sets, take_all, drop-drop, length-sets}
+use lib.Seq.{sets, drop-drop, length-sets, length-take-le}
+use borrow.Rule.Slice.PartMut.{put_mid}
 use borrow.Author.Tests.{lt-ltb, ne_eqb}
-use Rattle.wire_encoding.specs.BigEndian.{big_endian, bytes_of, part, placed, records}
+use Rattle.wire_encoding.specs.Result.{or_else}
+use Rattle.wire_encoding.specs.BigEndian.{big_endian, bytes_of, part, records}
 use Rattle.wire_encoding.proofs.Bits.{flip_bit}
-use Rattle.wire_encoding.proofs.Lists.{length_part, part_join, written_after, sets-whole}
+use Rattle.wire_encoding.proofs.Lists.{length_part, written_after}
 use Rattle.wire_encoding.proofs.BigEndian.{length_bytes_of}
-use Rattle.wire_encoding.proofs.Writes.{front-written, lent_run, placed_is}
+use Rattle.wire_encoding.proofs.Writes.{front-written, lent_run}
 use Rattle.path_meta_header.specs.MetaHeader.{nth_field, meta_of, info_fields_count, hop_fields_count, path_length}
 use Rattle.path_meta_header.specs.Reversal.{at_start, reversed_meta}
 use Rattle.path_meta_header.proofs.Reversal.{row_of, row_is}
-use Rattle.path_meta_header.specs.Encoding.{meta_fits, word_of}
+use Rattle.path_meta_header.specs.Encoding.{meta_fits, word_of, write_meta}
+use Rattle.path_meta_header.proofs.Encoding.{meta_written}
 use Rattle.path_meta_header.specs.declared.PathMetaHeader.{PathMetaHeader}
 use Rattle.errors.specs.declared.packet_error.DecodeError.{DecodeError}
 use Rattle.errors.specs.declared.path_error.PathError.TheVariants.{Decode, InadequateBufferSize}
@@ -33,7 +35,7 @@ use Rattle.path_reverse.specs.Copy.{copy}
 use Rattle.path_reverse.proofs.Copy.{put_in_front, into_enough, into_fewer, front_run}
 use Rattle.path_reverse.specs.Reverse.{reversed_records, flipped, same, reversed_under, reversed_path, reversed_bytes, reverse, Reversible}
 
--- THE PARTS OF A FIELD
+-- A FIELD
 
 -- what is written of a field is as long as the field
 abbrev pub Sized : (List ℕ → List ℕ) → Type 0
@@ -48,34 +50,11 @@ pub sized_same : Sized same
 unfolding same
 sized_same field = refl
 
--- a part written after the part before it
-pub parts_written : (src dst : List ℕ) (from to m n : ℕ) → from + m ≤ length src
-    → sets (sets dst to (part from m src)) (to + m) (part (from + m) n src) ≡ sets dst to (part from (m + n) src)
-parts_written src dst from to m n h =
-    written_after (part from m src) (part (from + m) n src) dst to m (length_part from m src h)
-    ∙ ap (sets dst to) (part_join from m n src)
-
--- a whole field written over another of its size
-whole-written : (src dst : List ℕ) (n : ℕ) → length src ≡ n → length dst ≡ n → sets dst 0 (part 0 n src) ≡ src
-whole-written src dst n h g = ap (sets dst 0) (take_all n src (omega arith)) ∙ sets-whole src dst (h ∙ sym g)
-
--- a hop field: eight bytes copied, then the four after them
-pub hop_field_copied : (src dst : List ℕ) → length src ≡ 12 → length dst ≡ 12 → {d₁ d₂ : List ℕ} → d₁ ≡ sets dst 0 (part 0 8 src)
-    → d₂ ≡ sets d₁ 8 (part 8 4 src) → d₂ ≡ src
-hop_field_copied src dst h g e₁ e₂ =
-    e₂
-    ∙ ap (λ (l : List ℕ). sets l 8 (part 8 4 src)) e₁
-    ∙ parts_written src dst 0 0 8 4 (omega arith)
-    ∙ whole-written src dst 12 h g
-
--- an info field: its flags are written over the copied ones, with bit 0 flipped by the mask
-pub flipped-written : (src dst : List ℕ) → length src ≡ 8 → length dst ≡ 8 → {d : List ℕ} → d ≡ sets dst 0 (part 0 8 src)
-    → set d 0 (bit_xor (get_or src 0 0) 1) ≡ flipped src
+-- an info field: its flags are written over themselves, with bit 0 flipped by the mask
+pub flipped_written : (field : List ℕ) → length field ≡ 8 → set field 0 (bit_xor (get_or field 0 0) 1) ≡ flipped field
 unfolding flipped
-flipped-written [] dst h g e = absurd (omega arith)
-flipped-written (flags ∷ rest) dst h g e =
-    ap (λ (l : List ℕ). set l 0 (bit_xor flags 1)) (e ∙ whole-written (flags ∷ rest) dst 8 h g)
-    ∙ ap (λ (b : ℕ). b ∷ rest) (flip_bit 0 flags)
+flipped_written [] h = absurd (omega arith)
+flipped_written (flags ∷ rest) h = ap (λ (b : ℕ). b ∷ rest) (flip_bit 0 flags)
 
 -- RECORDS, THE LAST ONE FIRST
 
@@ -112,56 +91,42 @@ module _ (f : List ℕ → List ℕ) (sized : Sized f) (k : ℕ) where
       ∙ ap₂ (λ (x y : ℕ). x + y) (length_record n bytes (omega arith)) (length-reversed_records n bytes (omega arith))
       ∙ omega arith
 
-  -- the loop: the records that are left, written to dst as it is now, give what is wanted
-  module _ (src : List ℕ) (from : ℕ) (goal dst₀ : List ℕ) where
-    pub record Left (dst : List ℕ) (to left : ℕ) : Type 0 where
-      pub writes : sets dst to (reversed_records f k left (drop from src)) ≡ goal
-      pub in_src : from + left * k ≤ length src
-      pub in_dst : to + left * k ≤ length dst
-      pub len : length dst ≡ length dst₀
+-- the loop: the records that are left, written to dst as it is now, give what is wanted
+module _ (f : List ℕ → List ℕ) (k : ℕ) (src : List ℕ) (from : ℕ) (dst₀ : List ℕ) (at count : ℕ) where
+  pub record Left (dst : List ℕ) (to left : ℕ) : Type 0 where
+    pub writes : sets dst to (reversed_records f k left (drop from src)) ≡ sets dst₀ at (reversed_records f k count (drop from src))
+    pub in_src : from + left * k ≤ length src
+    pub in_dst : to + left * k ≤ length dst
 
-    -- the parts that are lent for the last record are of its size
-    pub lent : (dst : List ℕ) (to left : ℕ) → 0 < left → Left dst to left
-        → let at : ℕ = from + (left - 1) * k in (length (part at (at + k - at) src) ≡ k) × (length (part to (to + k - to) dst) ≡ k)
-    lent dst to zero h i = elim h [ ]
-    lent dst to (suc n) h i =
-        let more : suc n * k ≡ n * k + k = suc-mul n k in
-        let at : ℕ = from + (suc n - 1) * k in
-        let end : at + k ≤ length src = simp sub-one (omega arith) in (
-          ap (λ (size : ℕ). length (part at size src)) (add-sub_cancel_left at k) ∙ length_part at k src end,
-          ap (λ (size : ℕ). length (part to size dst)) (add-sub_cancel_left to k) ∙ length_part to k dst (omega arith),
-        )
+  -- the last of them is written where the next one goes
+  pub step : (dst now : List ℕ) (to left : ℕ) → 0 < left → Left dst to left
+      → (let at : ℕ = from + (left - 1) * k in now ≡ f (part at (at + k - at) src)) → length now ≡ length (part to (to + k - to) dst)
+      → Left (put_mid to (to + k - to) dst now) (to + k) (left - 1)
+  step dst now to zero h i e kept = elim h [ ]
+  step dst now to (suc n) h i e kept =
+      let more : suc n * k ≡ n * k + k = suc-mul n k in
+      let size : length now ≡ k =
+      kept ∙ ap (λ (size : ℕ). length (part to size dst)) (add-sub_cancel_left to k) ∙ length_part to k dst (omega arith) in
+      let rest : List ℕ = reversed_records f k n (drop from src) in
+      let last : now ≡ f (part (n * k) k (drop from src)) =
+      simp sub-one at e
+      ∙ ap (λ (size : ℕ). f (part (from + n * k) size src)) (add-sub_cancel_left (from + n * k) k)
+      ∙ ap (λ (bytes : List ℕ). f (take k bytes)) (sym (drop-drop (n * k) from src)) in
+      let written : put_mid to (to + k - to) dst now ≡ sets dst to now =
+      lent_run now dst to (to + k - to) (size ∙ sym (add-sub_cancel_left to k)) (omega arith) in
+      let same-length = ap length written ∙ length-sets dst to now in
+      simp sub-one (record {
+        writes = ap (λ (d : List ℕ). sets d (to + k) rest) written ∙ written_after now rest dst to k size
+            ∙ ap (λ (field : List ℕ). sets dst to (field ++ rest)) last
+            ∙ ap (sets dst to) (sym (last-first f k n (drop from src))) ∙ i.writes;
+        in_src = omega arith;
+        in_dst = omega arith;
+      })
 
-    -- and it is written to the second of them
-    pub step : (dst now : List ℕ) (to left : ℕ) → 0 < left → Left dst to left
-        → (let at : ℕ = from + (left - 1) * k in now ≡ f (part at (at + k - at) src))
-        → Left (take to dst ++ (now ++ drop (to + k - to) (drop to dst))) (to + k) (left - 1)
-    step dst now to zero h i e = elim h [ ]
-    step dst now to (suc n) h i e =
-        let more : suc n * k ≡ n * k + k = suc-mul n k in
-        let last : List ℕ = f (part (n * k) k (drop from src)) in
-        let rest : List ℕ = reversed_records f k n (drop from src) in
-        let size : length last ≡ k = length_record n (drop from src) (simp length-drop (omega arith)) in
-        let field : now ≡ last =
-        simp sub-one at e
-        ∙ ap (λ (size : ℕ). f (part (from + n * k) size src)) (add-sub_cancel_left (from + n * k) k)
-        ∙ ap (λ (bytes : List ℕ). f (take k bytes)) (sym (drop-drop (n * k) from src)) in
-        let written : take to dst ++ (now ++ drop (to + k - to) (drop to dst)) ≡ sets dst to last =
-        ap (λ (run : List ℕ). take to dst ++ (run ++ drop (to + k - to) (drop to dst))) field
-        ∙ lent_run last dst to (to + k - to) (size ∙ sym (add-sub_cancel_left to k)) (omega arith) in
-        let kept : length (take to dst ++ (now ++ drop (to + k - to) (drop to dst))) ≡ length dst = ap length written ∙ simp length-sets in
-        simp sub-one (record {
-          writes = ap (λ (d : List ℕ). sets d (to + k) rest) written ∙ written_after last rest dst to k size
-              ∙ ap (sets dst to) (sym (last-first f k n (drop from src))) ∙ i.writes;
-          in_src = omega arith;
-          in_dst = omega arith;
-          len = kept ∙ i.len;
-        })
-
-    pub done : (dst : List ℕ) (to left : ℕ) → left ≤ 0 → Left dst to left → dst ≡ goal
-    unfolding reversed_records records flat_map
-    done dst to zero h i = i.writes
-    done dst to (suc _) h i = elim h [ ]
+  pub done : (dst : List ℕ) (to left : ℕ) → left ≤ 0 → Left dst to left → dst ≡ sets dst₀ at (reversed_records f k count (drop from src))
+  unfolding reversed_records records flat_map
+  done dst to zero h i = i.writes
+  done dst to (suc _) h i = elim h [ ]
 
 -- THE WHOLE PATH
 
@@ -197,17 +162,25 @@ module _ (m : PathMetaHeader) (bytes : List ℕ) where
     unfolding reversed_path
     length-reversed_path = length_reversed (reversed_meta m)
 
-  -- the three writes, one after another, of the reversed word and of as many fields as there are, are the path reversed in front
-  pub all_written : (dst : List ℕ) {word i n at : ℕ} {d₁ d₂ d₃ : List ℕ} → Reversible m (length bytes) (length dst)
-      → word ≡ word_of (reversed_meta m) → i ≡ info_fields_count m → n ≡ hop_fields_count m → at ≡ 4 + info_fields_count m * 8
-      → d₁ ≡ placed dst 0 (bytes_of 4 word) → d₂ ≡ sets d₁ 4 (reversed_records flipped 8 i (drop 4 bytes))
+  -- the three writes, one after another, of the reversed header and of as many fields as there are, are the path reversed in front
+  pub all_written : (dst : List ℕ) {h : PathMetaHeader} {i n at : ℕ} {d₁ d₂ d₃ : List ℕ} → Reversible m (length bytes) (length dst)
+      → h ≡ reversed_meta m → i ≡ info_fields_count m → n ≡ hop_fields_count m → at ≡ 4 + info_fields_count m * 8
+      → d₁ ≡ or_else (write_meta h (length (take 4 dst))) (take 4 dst)
+      → d₂ ≡ sets (d₁ ++ drop 4 dst) 4 (reversed_records flipped 8 i (drop 4 bytes))
       → d₃ ≡ sets d₂ at (reversed_records same 12 n (drop at bytes)) → d₃ ≡ reversed_path m bytes ++ drop (path_length m) dst
   unfolding reversed_path reversed_under path_length
-  all_written dst {d₁ = d₁} {d₂ = d₂} r spelt is many starts e₁ e₂ e₃ =
+  all_written dst {d₁ = d₁} {d₂ = d₂} r turned is many starts e₁ e₂ e₃ =
       let header : List ℕ = bytes_of 4 (word_of (reversed_meta m)) in
       let size : length header ≡ 4 = length_bytes_of 4 (word_of (reversed_meta m)) in
-      let first = e₁ ∙ ap (λ (w : ℕ). placed dst 0 (bytes_of 4 w)) spelt ∙ placed_is dst 0 header 4 size (omega arith) in
-      let second = e₂ ∙ ap (λ (c : ℕ). sets d₁ 4 (reversed_records flipped 8 c (drop 4 bytes))) is ∙ ap (λ (d : List ℕ). sets d 4 infos) first in
+      let four : 4 ≤ length dst = omega (arith, r.room) in
+      let written : or_else (write_meta (reversed_meta m) (length (take 4 dst))) (take 4 dst) ≡ header =
+      rw (meta_written (reversed_meta m) (length (take 4 dst)) r.fits (length-take-le 4 dst four)) in
+      let first : d₁ ++ drop 4 dst ≡ sets dst 0 header =
+      ap (λ (d : List ℕ). d ++ drop 4 dst)
+      (e₁ ∙ ap (λ (w : PathMetaHeader). or_else (write_meta w (length (take 4 dst))) (take 4 dst)) turned ∙ written)
+      ∙ sym (front-written header dst 4 size four) in
+      let second = e₂ ∙ ap (λ (c : ℕ). sets (d₁ ++ drop 4 dst) 4 (reversed_records flipped 8 c (drop 4 bytes))) is
+      ∙ ap (λ (d : List ℕ). sets d 4 infos) first in
       e₃
       ∙ ap₂ (λ (a c : ℕ). sets d₂ a (reversed_records same 12 c (drop a bytes))) starts many
       ∙ ap (λ (d : List ℕ). sets d (4 + info_fields_count m * 8) hops) second

@@ -15,6 +15,7 @@ use path_meta_header::PathMetaHeader;
 
 // Copies the path to the front of a destination of at least its length; the bytes behind it stay as they are. Answers with the
 // record of the path as written, and how many bytes it has.
+#[tactic(auto, using(crate::proofs::Calls::copies), unfolding(crate::specs::Copy::copy, crate::specs::Copy::written_path))]
 pub fn copy_to_slice(path: DataplanePath, bytes: &[u8], dst: &mut [u8]) -> Result<Extent, PathError>
     ensures value { result
         ≡ copying.written_path path.path_type (copying.copy path.path_type bytes.now dst.old) }
@@ -51,6 +52,7 @@ impl ReversedField for InfoField {
 
     const LENGTH: usize = InfoField::LENGTH;
 
+    #[tactic(auto, using(crate::proofs::Reverse::flipped_written))]
     fn write_reversed(src: &[u8], dst: &mut [u8]) {
         dst.copy_from_slice(src);
         dst[0] = src[0] ^ InfoField::CONSTRUCTION_DIRECTION_FLAG;
@@ -64,13 +66,21 @@ impl ReversedField for HopField {
 
     const LENGTH: usize = HopField::LENGTH;
 
+    #[tactic(auto, unfolding(crate::specs::Reverse::same))]
     fn write_reversed(src: &[u8], dst: &mut [u8]) {
         dst.copy_from_slice(src);
     }
 }
 
 // Writes `count` fields of `src` from `from` on to `dst` from `to` on, the last one first.
-fn reverse_fields<F: ReversedField>(src: &[u8], from: usize, dst: &mut [u8], to: usize, count: usize)
+#[tactic(auto, using(crate::proofs::Reverse::step, crate::proofs::Reverse::done))]
+fn reverse_fields<F: ReversedField>(
+    src: &[u8],
+    from: usize,
+    dst: &mut [u8],
+    to: usize,
+    count: usize,
+)
     requires { (from + count * F.LENGTH ≤ length src.now) × (to + count * F.LENGTH ≤ length dst.old) }
     ensures { dst.new ≡ sets dst.old to (spec.reversed_records F.reversed F.LENGTH count (drop from src.now)) }
 {
@@ -83,6 +93,7 @@ fn reverse_fields<F: ReversedField>(src: &[u8], from: usize, dst: &mut [u8], to:
 }
 
 // Writes a whole path reversed to the front of a destination of at least its length.
+#[tactic(auto, using(crate::proofs::Reverse::all_written, path_meta_header::proofs::Encoding::meta_written), unfolding(path_meta_header::specs::MetaHeader::path_length, wire_encoding::specs::Result::done))]
 fn reverse_path(meta_header: PathMetaHeader, bytes: &[u8], dst: &mut [u8])
     requires { spec.Reversible meta_header (length bytes.now) (length dst.old) }
     ensures { dst.new
@@ -102,6 +113,7 @@ fn reverse_path(meta_header: PathMetaHeader, bytes: &[u8], dst: &mut [u8])
 
 // Writes the reversed path to the front of a destination of at least the path's length: a standard path by the draft's Path
 // Reversal, an opaque one as it is. The bytes behind it stay as they are. Answers as `copy_to_slice` does.
+#[tactic(auto, using(crate::proofs::Calls::turns), unfolding(crate::specs::Copy::written_path))]
 pub fn reverse_to_slice(
     path: DataplanePath,
     bytes: &[u8],
