@@ -44,6 +44,7 @@ impl IsdAsn {
     }
 
     // The ISD: the highest 16 bits.
+    #[tactic(auto, using(crate::proofs::Laws::isd_below))]
     pub fn isd(self) -> u16
         ensures { result ≡ isd_of self.0 }
     {

@@ -30,6 +30,7 @@ pub struct AddressInfo(pub u8);
 
 impl AddressInfo {
     // How many bytes a host of this kind has.
+    #[tactic(auto, unfolding(crate::specs::CommonHeader::host_length))]
     pub fn address_length(self) -> usize
         ensures { (result ≡ spec.host_length self.0) × (result ≤ 16) }
     {
@@ -68,6 +69,7 @@ impl CommonHeader {
     pub const HOST_KINDS: usize = 9;
 
     // The header that stands in the place of one that was refused.
+    #[tactic(auto, unfolding(crate::specs::CommonHeader::zero_common, crate::specs::CommonHeader::common_at, wire_encoding::specs::BigEndian::big_endian))]
     pub fn zero() -> CommonHeader
         ensures { result ≡ spec.zero_common }
     {
@@ -86,6 +88,7 @@ impl CommonHeader {
     }
 
     // The length of all headers, in bytes.
+    #[tactic(auto, unfolding(crate::specs::CommonHeader::header_length))]
     pub fn header_length(self) -> usize
         ensures { (result ≡ spec.header_length self) × (result ≤ 1020) }
     {
@@ -93,6 +96,7 @@ impl CommonHeader {
     }
 
     // The length of the headers after this one.
+    #[tactic(auto, unfolding(crate::specs::CommonHeader::remaining_header_length))]
     pub fn remaining_header_length(self) -> usize
         ensures { result ≡ spec.remaining_header_length self }
     {

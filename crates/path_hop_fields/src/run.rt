@@ -18,6 +18,7 @@ pub fn check(bytes: &[u8]) -> Result<(), PathError>
 }
 
 // The run that the bytes are; empty where they are refused.
+#[tactic(auto, unfolding(crate::specs::Run::whole, crate::specs::Run::run_of))]
 pub fn whole(bytes: &[u8]) -> &[u8]
     ensures { result.now ≡ spec.whole bytes.now }
 {
@@ -35,6 +36,7 @@ pub fn count(run: &[u8]) -> usize
 }
 
 // The hop field at the front; empty where none is left.
+#[tactic(auto, unfolding(crate::specs::Run::first))]
 pub fn first(run: &[u8]) -> &[u8]
     ensures { result.now ≡ spec.first run.now }
 {
@@ -45,6 +47,7 @@ pub fn first(run: &[u8]) -> &[u8]
 }
 
 // The run without the hop field at its front.
+#[tactic(auto, using(crate::proofs::RunParts::nothing_after, crate::proofs::RunParts::to_the_end))]
 pub fn after_first(run: &[u8]) -> &[u8]
     ensures { result.now ≡ spec.after_first run.now }
 {
@@ -55,6 +58,7 @@ pub fn after_first(run: &[u8]) -> &[u8]
 }
 
 // The hop field at the back; empty where none is left.
+#[tactic(auto, using(crate::proofs::RunParts::to_the_end), unfolding(crate::specs::Run::last))]
 pub fn last(run: &[u8]) -> &[u8]
     ensures { result.now ≡ spec.last run.now }
 {
@@ -65,6 +69,7 @@ pub fn last(run: &[u8]) -> &[u8]
 }
 
 // The run without the hop field at its back.
+#[tactic(auto, using(crate::proofs::RunParts::nothing_before))]
 pub fn before_last(run: &[u8]) -> &[u8]
     ensures { result.now ≡ spec.before_last run.now }
 {

@@ -25,6 +25,7 @@ fn least_exp_time(hop_fields: &[u8]) -> u8
 }
 
 // The timestamp of the info field at `at`.
+#[tactic(auto, using(wire_encoding::proofs::BigEndian::or_zero_is))]
 fn timestamp_at(bytes: &[u8], at: usize) -> u32
     requires { at + 8 ≤ length bytes.now }
     ensures { result ≡ big_endian 4 bytes.now (at + 4) }
@@ -59,6 +60,7 @@ fn path_expiry(bytes: &[u8], meta_header: PathMetaHeader) -> u64
 }
 
 // Whether segment `k` is there, and all fields of the path are among the bytes.
+#[tactic(auto, unfolding(crate::specs::Expiry::is_there))]
 fn is_there(bytes: &[u8], meta_header: PathMetaHeader, k: usize) -> bool
     ensures { result ≡ spec.is_there bytes.now meta_header k }
 {
@@ -69,6 +71,7 @@ fn is_there(bytes: &[u8], meta_header: PathMetaHeader, k: usize) -> bool
 }
 
 // The expiry of segment `k`; 0 where it is not there.
+#[tactic(auto, using(crate::proofs::There::there), unfolding(crate::specs::Expiry::segment_expiry_or_zero))]
 pub fn segment_expiry_or_zero(bytes: &[u8], meta_header: PathMetaHeader, k: usize) -> u64
     ensures { (result ≡ spec.segment_expiry_or_zero bytes.now meta_header k) × (result ≤ spec.largest_expiry) }
 {
@@ -79,6 +82,7 @@ pub fn segment_expiry_or_zero(bytes: &[u8], meta_header: PathMetaHeader, k: usiz
 }
 
 // The expiry of the path; 0 where its fields are not all there.
+#[tactic(auto, using(crate::proofs::There::there), unfolding(crate::specs::Expiry::path_expiry_or_zero))]
 pub fn path_expiry_or_zero(bytes: &[u8], meta_header: PathMetaHeader) -> u64
     ensures { (result ≡ spec.path_expiry_or_zero bytes.now meta_header) × (result ≤ spec.largest_expiry) }
 {

@@ -33,6 +33,7 @@ pub fn both_peering(info_fields: usize, bytes: &[u8]) -> bool
 }
 
 // Whether a path of this header is a peering path: two segments, and both have peering.
+#[tactic(auto, unfolding(crate::specs::Standard::peering_path))]
 pub fn is_peering_path(meta_header: PathMetaHeader, bytes: &[u8]) -> bool
     ensures { result ≡ spec.peering_path bytes.now meta_header }
 {
