@@ -16,6 +16,7 @@ use Rattle.path_meta_header.specs.MetaHeader.{info_fields_count, hop_fields_coun
 use Rattle.path_meta_header.specs.MetaHeader.{hop_fields_start, hop_start}
 use Rattle.path_meta_header.specs.declared.PathMetaHeader.{PathMetaHeader}
 use Rattle.errors.specs.declared.path_error.PathError.{PathError}
+use Rattle.path.specs.declared.standard.segment.Segment.{Segment}
 use Rattle.path.specs.Segment.{nowhere}
 use Rattle.path.specs.Dataplane.{standard, segment_in, hop_field_in, part_in}
 use Rattle.path.specs.declared.standard.Part.{Part}
