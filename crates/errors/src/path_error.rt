@@ -31,8 +31,8 @@ pub enum PathError {
 impl From<DecodeError> for PathError {
     ghost from_gives = { λ error refusal. refusal ≡ Decode error };
 
-    fn from(error: DecodeError) -> PathError {
-        PathError::Decode(error)
+    fn from(refusal: DecodeError) -> PathError {
+        PathError::Decode(refusal)
     }
 }
 

@@ -140,10 +140,7 @@ impl DataplanePath {
         ensures { result.now
             ≡ spec.part_in bytes.now (or_else (spec.info_field_in self.path_type bytes.now index) nowhere) }
     {
-        match self.locate_info_field(bytes, index) {
-            Ok(found) => found.value.of(bytes),
-            Err(_) => &bytes[..0],
-        }
+        Part::found(self.locate_info_field(bytes, index), bytes)
     }
 
     // Hop field `index`, as a part of the path's bytes; empty where it is refused.
@@ -152,10 +149,7 @@ impl DataplanePath {
         ensures { result.now
             ≡ spec.part_in bytes.now (or_else (spec.hop_field_in self.path_type bytes.now index) nowhere) }
     {
-        match self.locate_hop_field(bytes, index) {
-            Ok(found) => found.value.of(bytes),
-            Err(_) => &bytes[..0],
-        }
+        Part::found(self.locate_hop_field(bytes, index), bytes)
     }
 
     // Segment `index`: where its info field and its hop fields lie.

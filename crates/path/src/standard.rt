@@ -1,10 +1,13 @@
 // The standard path: a meta header, info fields and hop fields, read from bytes.
 ghost use Rattle.std.specs.Prelude.{◌≡◌, ◌≤◌, IfOk};
+ghost use Rattle.wire_encoding.specs.Result.{mapped, or_else};
 ghost use Rattle.path_least_expiry.specs.Expiry.{largest_expiry};
+ghost use Rattle.path.specs.Segment.{nowhere};
 ghost use Rattle.path.specs.Standard as spec;
 ghost use Rattle.path.specs.Dataplane.{part_in};
 
 use errors::packet_error::DecodeError;
+use errors::path_error::PathError;
 use path_least_expiry::path_expiry_or_zero;
 use path_meta_header::PathMetaHeader;
 use wire_encoding::read::part_of;
@@ -73,5 +76,15 @@ impl Part {
         ensures { result.now ≡ part_in bytes.now self }
     {
         part_of(bytes, self.start, self.len)
+    }
+
+    // The bytes of a part that was found; none where it was refused.
+    pub fn found(read: Result<Found<Part>, PathError>, bytes: &[u8]) -> &[u8]
+        ensures { result.now ≡ part_in bytes.now (or_else (mapped (λ found. found.value) read) nowhere) }
+    {
+        match read {
+            Ok(found) => found.value.of(bytes),
+            Err(_) => &bytes[..0],
+        }
     }
 }

@@ -37,8 +37,5 @@ pub fn hop_fields(path: DataplanePath, bytes: &[u8]) -> &[u8]
     ensures { result.now
         ≡ part_in bytes.now (or_else (spec.hop_fields_in path.path_type bytes.now) nowhere) }
 {
-    match locate(path, bytes) {
-        Ok(found) => found.value.of(bytes),
-        Err(_) => &bytes[..0],
-    }
+    Part::found(locate(path, bytes), bytes)
 }
