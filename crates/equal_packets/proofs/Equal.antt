@@ -45,8 +45,8 @@ module _ (read : Reader) (captured : (bytes : List ℕ) (p : Packet) → read by
       → take (packet_end (raw_packet p)) bytes ≡ filed_bytes (filed (raw_packet p) bytes)
   unfolding filed filed_bytes raw_packet headers_of
   all_filed bytes small p e =
-      let lies = (parts bytes p e).1 in
-      rw (lies.0, lies.1) (all_again bytes p small (split bytes (captured bytes p e)))
+      let lies = parts bytes p e in
+      rw (lies.1, lies.2) (all_again bytes p small (split bytes (captured bytes p e)))
 
   -- the same of what a reader answers
   all_answered : (bytes : List ℕ) → ((i : ℕ) → get_or bytes i 0 < 256) → (a : ScionPacketRaw) → packet_answer (read bytes) ≡ Ok a

@@ -49,13 +49,13 @@ module _ (bytes : List ℕ) (b : Bytes bytes) (p : Packet) (s : Split bytes p) w
   headers_back = rw ends_back
 
 pub writes_again_over_c : OfBoth WritesAgainOverC
-unfolding packet_out
+unfolding packet_out raw_packet
 writes_again_over_c =
     let small_bytes : (bytes : List ℕ) → ((i : ℕ) → get_or bytes i 0 < 256) → Bytes bytes = λ bytes small i. record { fits = small i } in
     let packet : WritesAgainOverC read_packet = λ bytes p small read.
-    rw (read, (parts_of_the_packet.0 bytes p read).1.0, headers_back bytes (small_bytes bytes small) p (split bytes (packet_captured bytes read)))
+    rw (read, (parts_of_the_packet.0 bytes p read).1, headers_back bytes (small_bytes bytes small) p (split bytes (packet_captured bytes read)))
     (writes_again.0 bytes p small read) in
     let capture : WritesAgainOverC read_capture = λ bytes p small read.
-    rw (read, (parts_of_the_packet.1 bytes p read).1.0, headers_back bytes (small_bytes bytes small) p (split bytes read))
+    rw (read, (parts_of_the_packet.1 bytes p read).1, headers_back bytes (small_bytes bytes small) p (split bytes read))
     (writes_again.1 bytes p small read) in
     (packet, capture)
