@@ -164,7 +164,10 @@ impl From<Result<ScionPacketRaw, DecodeError>> for ScionPacket {
     #[tactic(auto, unfolding(crate::specs::Packets::packet_out))]
     fn from(read: Result<ScionPacketRaw, DecodeError>) -> ScionPacket {
         let answer = decoded_out(&read);
-        let packet = read.unwrap_or(no_packet());
+        let packet = match read {
+            Ok(packet) => packet,
+            Err(_) => no_packet(),
+        };
         let common = packet.common;
         let address = packet.address;
         ScionPacket {

@@ -3,6 +3,8 @@
 
 ghost use Rattle.std.specs.Prelude.{◌≡◌};
 ghost use Rattle.errors.specs.Errors.{path_number, path_value};
+ghost use Rattle.wire_encoding.specs.Result.{or_else};
+ghost use Rattle.path.specs.Standard.{no_path};
 ghost use Rattle.path.specs.Dataplane.{unread};
 ghost use Rattle.scion_paths.specs.Answer.{answer_out, decoded_out};
 ghost use Rattle.scion_paths.specs.Paths as spec;
@@ -176,17 +178,44 @@ pub struct ScionWalk {
     pub arrived: bool,
 }
 
-// What is found of a path; the record is all zero, and the value is `zero`, where it was refused.
+// What is found of a path; the record is all zero, and the value is `zero`, where it was refused. The zeros of a record are made in an
+// arm of their own, here and below, so that an accepted call does not make them.
 fn found_out<T: Copy + Drop>(read: Result<Found<T>, PathError>, zero: T) -> Found<T>
     ensures { result ≡ spec.found_out zero read }
 {
-    read.unwrap_or(Found {
-        path: StandardPath::zero(),
-        value: zero,
-    })
+    match read {
+        Ok(found) => found,
+        Err(_) => Found {
+            path: StandardPath::zero(),
+            value: zero,
+        },
+    }
 }
 
-// The path of a call that hands its record over.
+// The record of a path; all zero where it was refused.
+fn path_out(read: Result<StandardPath, PathError>) -> StandardPath
+    ensures { result ≡ or_else read no_path }
+{
+    match read {
+        Ok(path) => path,
+        Err(_) => StandardPath::zero(),
+    }
+}
+
+// A path and its length; all zero where it was refused.
+fn extent_out<E: Copy + Drop>(read: Result<Extent, E>) -> Extent
+    ensures { result ≡ or_else read (unread 0) }
+{
+    match read {
+        Ok(extent) => extent,
+        Err(_) => Extent {
+            path: StandardPath::zero(),
+            length: 0,
+        },
+    }
+}
+
+// A call that hands the path's record over.
 impl From<Result<StandardPath, PathError>> for ScionPathAnswer {
     ghost from_gives = { λ left out. out ≡ spec.path_answer_out left };
 
@@ -194,7 +223,7 @@ impl From<Result<StandardPath, PathError>> for ScionPathAnswer {
     fn from(left: Result<StandardPath, PathError>) -> ScionPathAnswer {
         ScionPathAnswer {
             answer: answer_out(&left),
-            path: left.unwrap_or(StandardPath::zero()),
+            path: path_out(left),
         }
     }
 }
@@ -205,7 +234,7 @@ impl From<Result<Extent, DecodeError>> for ScionPathRead {
     #[tactic(auto, unfolding(crate::specs::Paths::path_read_out))]
     fn from(read: Result<Extent, DecodeError>) -> ScionPathRead {
         let answer = decoded_out(&read);
-        let extent = read.unwrap_or(no_extent());
+        let extent = extent_out(read);
         ScionPathRead {
             answer,
             path: extent.path,
@@ -220,7 +249,7 @@ impl From<Result<Extent, PathError>> for ScionWrittenPath {
     #[tactic(auto, unfolding(crate::specs::Paths::written_path_out))]
     fn from(written: Result<Extent, PathError>) -> ScionWrittenPath {
         let answer = answer_out(&written);
-        let front = written.unwrap_or(no_extent());
+        let front = extent_out(written);
         ScionWrittenPath {
             answer,
             path: front.path,
@@ -325,27 +354,20 @@ impl From<Result<WalkAnswer, PathError>> for ScionWalk {
     #[tactic(auto, unfolding(crate::specs::Paths::walk_out))]
     fn from(walked: Result<WalkAnswer, PathError>) -> ScionWalk {
         let answer = answer_out(&walked);
-        let walk = walked.unwrap_or(WalkAnswer {
-            path: StandardPath::zero(),
-            moves: 0,
-            arrived: false,
-        });
+        let walk = match walked {
+            Ok(walk) => walk,
+            Err(_) => WalkAnswer {
+                path: StandardPath::zero(),
+                moves: 0,
+                arrived: false,
+            },
+        };
         ScionWalk {
             answer,
             path: walk.path,
             moves: walk.moves,
             arrived: walk.arrived,
         }
-    }
-}
-
-// What stands in the place of a path that was refused.
-fn no_extent() -> Extent
-    ensures { result ≡ unread 0 }
-{
-    Extent {
-        path: StandardPath::zero(),
-        length: 0,
     }
 }
 
