@@ -21,10 +21,7 @@ use std::io::Read;
 
 // Whether a line is a call: it is not empty, and no comment.
 fn is_call(line: &[u8]) -> bool {
-    if line.len() == 0 {
-        return false;
-    }
-    line[0] != b'#'
+    line.first().is_some_and(|first| *first != b'#')
 }
 
 // Prints a line, with its answer where it is a call.
@@ -39,11 +36,8 @@ fn execute(out: &impl Print, line: &[u8]) -> io::Result<()> {
 
 // Executes each line of a text.
 fn execute_all(out: &impl Print, text: &[u8]) -> io::Result<()> {
-    let mut start: usize = 0;
-    while start < text.len() {
-        let end = words::find(text, start, b'\n');
-        execute(out, &text[start..end])?;
-        start = end + 1;
+    for line in text.split_inclusive(|byte| *byte == b'\n') {
+        execute(out, line.strip_suffix(b"\n").unwrap_or(line))?;
     }
     Ok(())
 }
@@ -74,9 +68,8 @@ fn read_full(from: &mut impl Read, buffer: &mut [u8]) -> usize
     let mut filled: usize = 0;
     while filled < buffer.len() {
         match from.read(&mut buffer[filled..]) {
-            Ok(0) => break,
+            Ok(0) | Err(_) => break,
             Ok(got) => filled += got,
-            Err(_) => break,
         }
     }
     filled

@@ -1,17 +1,25 @@
 // Calls on paths as bytes: word 1 is the type, word 2 the bytes, word 3 an index or a time.
 use crate::{meta_headers, print};
-use path::dataplane::{DataplanePath, Located};
-use path::standard::Part;
-use path_expiry::Expiry;
+use errors::path_error::PathError;
+use path::dataplane::{DataplanePath, Extent};
+use path::standard::segment::Segment;
+use path::standard::{Found, Part, StandardPath};
+use std::fmt::Display;
 use std::io;
+
+// The part that stands in the place of one that was refused.
+pub const NOWHERE: Part = Part { start: 0, len: 0 };
 
 // `path T B`: the path's length, its pointers, its reserved bits and its lengths.
 pub fn read(out: &impl Print, path: DataplanePath, bytes: &[u8]) -> io::Result<()> {
     let read = path.decode(bytes);
-    let answer = read.answer;
-    print::decoded(out, answer)?;
-    print::number(out, read.length as u64)?;
-    meta_headers::record(out, read.path.meta_header)
+    print::answer(out, read)?;
+    let extent = read.unwrap_or(Extent {
+        path: StandardPath::zero(),
+        length: 0,
+    });
+    print::number(out, extent.length)?;
+    meta_headers::record(out, extent.path.meta_header)
 }
 
 // `raw T B`: the bytes of the path; none where it is refused.
@@ -21,14 +29,13 @@ pub fn raw(out: &impl Print, path: DataplanePath, bytes: &[u8]) -> io::Result<()
 
 // A part by its start and its length.
 fn part(out: &impl Print, part: Part) -> io::Result<()> {
-    print::two(out, part.start as u64, part.len as u64)
+    print::two(out, part.start, part.len)
 }
 
 // Where a field lies.
-fn located(out: &impl Print, located: Located) -> io::Result<()> {
-    let answer = located.answer;
-    print::answer(out, answer)?;
-    part(out, located.part)
+fn located(out: &impl Print, located: Result<Found<Part>, PathError>) -> io::Result<()> {
+    print::answer(out, located)?;
+    part(out, located.map_or(NOWHERE, |found| found.value))
 }
 
 // `locinfo T B i`: where info field i lies, and its bytes.
@@ -55,42 +62,33 @@ pub fn segment(
     bytes: &[u8],
     index: usize,
 ) -> io::Result<()> {
-    let segment = path.segment(bytes, index);
-    let answer = segment.answer;
-    print::answer(out, answer)?;
+    let found = path.segment(bytes, index);
+    print::answer(out, found)?;
+    let nowhere = Segment {
+        info_field: NOWHERE,
+        hop_fields: NOWHERE,
+    };
+    let segment = found.map_or(nowhere, |found| found.value);
     part(out, segment.info_field)?;
     part(out, segment.hop_fields)
 }
 
-// An expiry in ms.
-pub fn expiry(out: &impl Print, expiry: Expiry) -> io::Result<()> {
-    let answer = expiry.answer;
-    print::answer(out, answer)?;
-    print::number(out, expiry.ms)
-}
-
-// `left T B now`: the time left.
-pub fn left(out: &impl Print, path: DataplanePath, bytes: &[u8], now: u64) -> io::Result<()> {
-    let left = path_expiry::time_left(path, bytes, now);
-    let answer = left.answer;
-    print::answer(out, answer)?;
-    print::signed(out, left.ms)
-}
-
-// `ifcount T B`: the number of interfaces.
-pub fn ifcount(out: &impl Print, path: DataplanePath, bytes: &[u8]) -> io::Result<()> {
-    let count = path_interfaces::interfaces_count(path, bytes);
-    let answer = count.answer;
-    print::answer(out, answer)?;
-    print::number(out, count.count as u64)
+// The number that a call finds: an expiry in ms, or the number of interfaces.
+pub fn found<T: Copy + Display + Default>(
+    out: &impl Print,
+    found: Result<Found<T>, PathError>,
+) -> io::Result<()> {
+    print::answer(out, found)?;
+    print::number(out, found.map_or(T::default(), |found| found.value))
 }
 
 // `iface T B i`: interface i's hop field and its number.
 pub fn iface(out: &impl Print, path: DataplanePath, bytes: &[u8], index: usize) -> io::Result<()> {
-    let at = path_interfaces::interface(path, bytes, index);
-    let answer = at.answer;
-    let interface = at.interface;
-    print::answer(out, answer)?;
-    print::number(out, at.hop_field as u64)?;
-    print::interface(out, interface)
+    let found = path_interfaces::interface(path, bytes, index);
+    print::answer(out, found)?;
+    let (hop_field, interface) = match found {
+        Ok(found) => (found.value.hop_field, found.value.interface),
+        Err(_) => (0, None),
+    };
+    print::two(out, hop_field, interface.unwrap_or(0))
 }

@@ -1,8 +1,23 @@
 // Answers on standard output: each number or byte string after a space.
-use errors::packet_error::Decoded;
-use errors::path_error::Answer;
-use path_fields::Interface;
-use std::io;
+use errors::path_error::PathError;
+use std::fmt::Display;
+use std::{fmt, io};
+
+// A byte string: the two digits of each byte; `-` where it is empty.
+#[derive(Clone, Copy)]
+pub struct Hex<'a>(pub &'a [u8]);
+
+impl Display for Hex<'_> {
+    fn fmt<W: fmt::Write>(&self, f: &mut fmt::Formatter<W>) -> fmt::Result {
+        if self.0.is_empty() {
+            return write!(f, "-");
+        }
+        for byte in self.0 {
+            write!(f, "{byte:02x}")?;
+        }
+        Ok(())
+    }
+}
 
 // That a line is no call.
 pub fn unknown(out: &impl Print) -> io::Result<()> {
@@ -10,103 +25,62 @@ pub fn unknown(out: &impl Print) -> io::Result<()> {
 }
 
 // A number in decimal.
-pub fn number(out: &impl Print, number: u64) -> io::Result<()> {
+pub fn number(out: &impl Print, number: impl Display + Drop) -> io::Result<()> {
     print!(out; " {number}")
 }
 
 // Two numbers.
-pub fn two(out: &impl Print, first: u64, second: u64) -> io::Result<()> {
-    number(out, first)?;
-    number(out, second)
-}
-
-// A byte as a number.
-pub fn byte(out: &impl Print, byte: u8) -> io::Result<()> {
-    number(out, byte as u64)
+pub fn two(
+    out: &impl Print,
+    first: impl Display + Drop,
+    second: impl Display + Drop,
+) -> io::Result<()> {
+    print!(out; " {first} {second}")
 }
 
 // A flag as 1 or 0.
 pub fn flag(out: &impl Print, on: bool) -> io::Result<()> {
-    if on { number(out, 1) } else { number(out, 0) }
+    number(out, u8::from(on))
 }
 
-// How far a number lies from 0.
-fn distance(number: i64) -> u64 {
-    if number < 0 {
-        return (-1 - number) as u64 + 1;
-    }
-    number as u64
-}
-
-// A number that may lie below 0.
-pub fn signed(out: &impl Print, number: i64) -> io::Result<()> {
-    if number < 0 {
-        print!(out; " -")?;
-    } else {
-        print!(out; " ")?;
-    }
-    print!(out; "{}", distance(number))
-}
-
-// The two digits of each byte.
-fn pairs(out: &impl Print, bytes: &[u8]) -> io::Result<()> {
-    for byte in bytes {
-        print!(out; "{:02x}", *byte)?;
-    }
-    Ok(())
-}
-
-// A byte string; `-` where it is empty.
+// A byte string.
 pub fn bytes(out: &impl Print, bytes: &[u8]) -> io::Result<()> {
-    print!(out; " ")?;
-    if bytes.len() == 0 {
-        print!(out; "-")?;
-    }
-    pairs(out, bytes)
+    print!(out; " {}", Hex(bytes))
 }
 
-// Document 01's number and value of an answer to a call on a path.
-pub fn answer(out: &impl Print, answer: Answer) -> io::Result<()> {
+// Document 01's number and value of an answer.
+pub fn answer<T: Copy, E: Into<PathError>>(
+    out: &impl Print,
+    answer: Result<T, E>,
+) -> io::Result<()> {
     match answer {
-        Answer::Accepted => two(out, 0, 0),
-        Answer::Refused(error) => {
-            byte(out, error.number())?;
-            byte(out, error.value())
+        Ok(_) => two(out, 0, 0),
+        Err(error) => {
+            let error: PathError = error.into();
+            two(out, error.number(), error.value())
         }
     }
 }
 
-// Document 01's number alone.
-pub fn answer_number(out: &impl Print, answer: Answer) -> io::Result<()> {
+// Document 01's number of an answer alone.
+pub fn answer_number<T: Copy, E: Into<PathError>>(
+    out: &impl Print,
+    answer: Result<T, E>,
+) -> io::Result<()> {
     match answer {
-        Answer::Accepted => number(out, 0),
-        Answer::Refused(error) => byte(out, error.number()),
-    }
-}
-
-// Document 01's number and value of a reading.
-pub fn decoded(out: &impl Print, decoded: Decoded) -> io::Result<()> {
-    match decoded {
-        Decoded::Accepted => two(out, 0, 0),
-        Decoded::Refused(error) => {
-            byte(out, error.number())?;
-            byte(out, error.value())
+        Ok(_) => number(out, 0),
+        Err(error) => {
+            let error: PathError = error.into();
+            number(out, error.number())
         }
     }
 }
 
-// Document 01's number alone of a reading.
-pub fn decoded_number(out: &impl Print, decoded: Decoded) -> io::Result<()> {
-    match decoded {
-        Decoded::Accepted => number(out, 0),
-        Decoded::Refused(error) => byte(out, error.number()),
-    }
-}
-
-// The number of an interface, 0 for none.
-pub fn interface(out: &impl Print, interface: Interface) -> io::Result<()> {
-    match interface {
-        Interface::None => number(out, 0),
-        Interface::Id(id) => number(out, id as u64),
-    }
+// Document 01's number of an answer, and the number that was answered, 0 where it was refused.
+pub fn answered<T: Copy + Display + Default, E: Copy + Into<PathError>>(
+    out: &impl Print,
+    answered: Result<T, E>,
+) -> io::Result<()> {
+    answer_number(out, answered)?;
+    number(out, answered.unwrap_or_default())
 }

@@ -1,42 +1,35 @@
 // Calls that change paths: word 1 is the type, word 2 the bytes.
 use crate::{print, words};
-use path::dataplane::{DataplanePath, PathAnswer};
-use path_reverse::WrittenPath;
+use errors::path_error::PathError;
+use path::dataplane::{DataplanePath, Extent};
+use path::standard::StandardPath;
+use path_moves::WalkAnswer;
 use std::io;
 
-// Whether a call was carried out.
-pub fn done(out: &impl Print, path: PathAnswer) -> io::Result<()> {
-    let answer = path.answer;
-    print::answer(out, answer)
+// The path of the type in word 1.
+pub fn path_at(line: &[u8]) -> DataplanePath {
+    DataplanePath::new(words::number_at(line, 1))
 }
 
 // Whether a path was written, and how many bytes of the destination it is.
-pub fn written(out: &impl Print, path: WrittenPath) -> io::Result<()> {
-    let answer = path.answer;
-    print::answer(out, answer)?;
-    print::number(out, path.length as u64)
+pub fn written(out: &impl Print, written: Result<Extent, PathError>) -> io::Result<()> {
+    print::answer(out, written)?;
+    print::number(out, written.map_or(0, |extent| extent.length))
 }
 
-// `alert T B i k n`: the bytes with the ingress (k 1) or egress (k 0) alert flag of hop field i set to n.
-pub fn alert(out: &impl Print, line: &[u8], bytes: &mut [u8], index: usize) -> io::Result<()> {
-    let path = DataplanePath::new(words::u8_at(line, 1));
+// The ingress (word 4 is 1) or egress (it is 0) alert flag of hop field `index` set to word 5.
+pub fn set_alert(line: &[u8], bytes: &mut [u8], index: usize) -> Result<StandardPath, PathError> {
     let enable = words::flag_at(line, 5);
     if words::flag_at(line, 4) {
-        done(
-            out,
-            path.set_cons_ingress_router_alert(bytes, index, enable),
-        )
+        path_at(line).set_cons_ingress_router_alert(bytes, index, enable)
     } else {
-        done(out, path.set_cons_egress_router_alert(bytes, index, enable))
+        path_at(line).set_cons_egress_router_alert(bytes, index, enable)
     }
 }
 
 // `walk T B limit`: how many moves a walk made, whether it stands at the last hop field, and the bytes after it.
-pub fn walk(out: &impl Print, line: &[u8], bytes: &mut [u8], limit: usize) -> io::Result<()> {
-    let path = DataplanePath::new(words::u8_at(line, 1));
-    let walked = path_moves::walk(path, bytes, limit);
-    let answer = walked.answer;
-    print::answer(out, answer)?;
-    print::number(out, walked.moves as u64)?;
-    print::flag(out, walked.arrived)
+pub fn walk(out: &impl Print, walked: Result<WalkAnswer, PathError>) -> io::Result<()> {
+    print::answer(out, walked)?;
+    print::number(out, walked.map_or(0, |walked| walked.moves))?;
+    print::flag(out, walked.is_ok_and(|walked| walked.arrived))
 }

@@ -1,191 +1,118 @@
 // Calls on numbers on the wire, bounded numbers and addresses.
-use crate::{print, words};
-use address::host::{HostAddr, HostKind, HostType, HostTypeRead};
-use address::ia::{IsdAsn, NewIsdAsn};
+use crate::{packets, print, words};
+use address::host::{HostAddr, HostType};
+use address::ia::IsdAsn;
 use address::service::ServiceAddr;
+use errors::packet_error::DecodeError;
+use errors::path_error::PathError;
 use packet_common_header::{AddressInfo, CommonHeader};
 use path::dataplane::DataplanePath;
 use path_fields::{HopField, InfoField};
 use path_meta_header::PathMetaHeader;
+use std::fmt::Display;
 use std::io;
-use wire_encoding::bounded::{NewU2, NewU4, NewU6, NewU20, U2, U4, U6, U20};
-use wire_encoding::read::{Read16, Read32, Read64, get_u16, get_u32, get_u64};
-use wire_encoding::write::Put;
+use wire_encoding::bounded::{U2, U4, U6, U20};
+use wire_encoding::number::Number;
+use wire_encoding::{read, write};
 
-// `get 2 B at`: the 16-bit number.
-pub fn get_2(out: &impl Print, bytes: &[u8], at: usize) -> io::Result<()> {
-    match get_u16(bytes, at) {
-        Read16::Value(value) => print::two(out, 0, value as u64),
-        Read16::Truncated => print::two(out, 1, 0),
-    }
+// `get 2 B at`, `get 4 B at` and `get 8 B at`: the number of 16, 32 or 64 bits.
+pub fn get<T: Number>(out: &impl Print, bytes: &[u8], at: usize) -> io::Result<()> {
+    let number = read::get::<T>(bytes, at).map(|number| number.to_u64());
+    print::answered(out, number.ok_or(DecodeError::PacketEmptyOrTruncated))
 }
 
-// `get 4 B at`: the 32-bit number.
-pub fn get_4(out: &impl Print, bytes: &[u8], at: usize) -> io::Result<()> {
-    match get_u32(bytes, at) {
-        Read32::Value(value) => print::two(out, 0, value as u64),
-        Read32::Truncated => print::two(out, 1, 0),
-    }
+// `put 2 B at n`, `put 4 B at n` and `put 8 B at n`: a number of 16, 32 or 64 bits written.
+pub fn put<T: Number>(out: &impl Print, bytes: &mut [u8], at: usize, number: T) -> io::Result<()> {
+    let answer = write::put(bytes, at, number);
+    print::answer_number(out, answer.map_err(|_| PathError::InadequateBufferSize))
 }
 
-// `get 8 B at`: the 64-bit number.
-pub fn get_8(out: &impl Print, bytes: &[u8], at: usize) -> io::Result<()> {
-    match get_u64(bytes, at) {
-        Read64::Value(value) => print::two(out, 0, value),
-        Read64::Truncated => print::two(out, 1, 0),
-    }
-}
-
-// Whether a number was written.
-pub fn put(out: &impl Print, answer: Put) -> io::Result<()> {
-    match answer {
-        Put::Done => print::number(out, 0),
-        Put::InadequateBufferSize => print::number(out, 9),
-    }
-}
-
-// `bounded 2 n`: a number of 2 bits.
-pub fn bounded_2(out: &impl Print, line: &[u8]) -> io::Result<()> {
-    match U2::new(words::u8_at(line, 2)) {
-        NewU2::Value(value) => print::two(out, 0, value.get() as u64),
-        NewU2::TooWide => print::two(out, 10, 0),
-    }
-}
-
-// `bounded 4 n`: a number of 4 bits.
-pub fn bounded_4(out: &impl Print, line: &[u8]) -> io::Result<()> {
-    match U4::new(words::u8_at(line, 2)) {
-        NewU4::Value(value) => print::two(out, 0, value.get() as u64),
-        NewU4::TooWide => print::two(out, 10, 0),
-    }
-}
-
-// `bounded 6 n`: a number of 6 bits.
-pub fn bounded_6(out: &impl Print, line: &[u8]) -> io::Result<()> {
-    match U6::new(words::u8_at(line, 2)) {
-        NewU6::Value(value) => print::two(out, 0, value.get() as u64),
-        NewU6::TooWide => print::two(out, 10, 0),
-    }
-}
-
-// `bounded 20 n`: a number of 20 bits.
-pub fn bounded_20(out: &impl Print, line: &[u8]) -> io::Result<()> {
-    match U20::new(words::u32_at(line, 2)) {
-        NewU20::Value(value) => print::two(out, 0, value.get() as u64),
-        NewU20::TooWide => print::two(out, 10, 0),
-    }
+// A number that fits its bits.
+pub fn fitting<T: Copy + Display + Default>(out: &impl Print, number: Option<T>) -> io::Result<()> {
+    print::answered(out, number.ok_or(PathError::NumberTooWide))
 }
 
 // `isdasn n`: the ISD, the AS, and whether either is the wildcard.
 pub fn isdasn(out: &impl Print, line: &[u8]) -> io::Result<()> {
-    let isd_asn = IsdAsn(words::u64_at(line, 1));
-    print::number(out, isd_asn.isd() as u64)?;
-    print::number(out, isd_asn.asn())?;
+    let isd_asn = IsdAsn(words::number_at(line, 1));
+    print::two(out, isd_asn.isd(), isd_asn.asn())?;
     print::flag(out, isd_asn.is_wildcard())
 }
 
 // `newisdasn i a`: the network number of ISD i and AS a, or 10 where a has more than 48 bits.
 pub fn new_isdasn(out: &impl Print, line: &[u8]) -> io::Result<()> {
-    match IsdAsn::new(words::u16_at(line, 1), words::u64_at(line, 2)) {
-        NewIsdAsn::Value(isd_asn) => print::two(out, 0, isd_asn.to_u64()),
-        NewIsdAsn::TooWide => print::two(out, 10, 0),
-    }
+    let isd_asn = IsdAsn::new(words::number_at(line, 1), words::number_at(line, 2));
+    fitting(out, isd_asn.map(|isd_asn| u64::from(isd_asn)))
 }
 
 // `service n`: whether it is multicast, whether it is anycast, and its number with the multicast bit set and cleared.
 pub fn service(out: &impl Print, line: &[u8]) -> io::Result<()> {
-    let service = ServiceAddr(words::u16_at(line, 1));
+    let service = ServiceAddr(words::number_at(line, 1));
     print::flag(out, service.is_multicast())?;
     print::flag(out, service.is_anycast())?;
-    let multicast = service.multicast();
-    print::number(out, multicast.0 as u64)?;
-    let anycast = service.anycast();
-    print::number(out, anycast.0 as u64)
+    print::two(out, service.multicast().0, service.anycast().0)
+}
+
+// A number after 1; 0 where there is none.
+fn known(out: &impl Print, number: Option<u8>) -> io::Result<()> {
+    print::flag(out, number.is_some())?;
+    print::number(out, number.unwrap_or(0))
+}
+
+// The type that the byte of word 1 names.
+fn host_type(line: &[u8]) -> Option<HostType> {
+    HostType::try_from(words::number_at::<u8>(line, 1)).ok()
 }
 
 // `hosttype n`: the number of the type that a byte names, after 1; 0 where it names none.
 pub fn hosttype(out: &impl Print, line: &[u8]) -> io::Result<()> {
-    match HostType::from_byte(words::u8_at(line, 1)) {
-        HostTypeRead::Known(known) => print::two(out, 1, known.to_byte() as u64),
-        HostTypeRead::Unknown => print::two(out, 0, 0),
-    }
-}
-
-// The host kind on the wire after 1, or 0 where there is none.
-fn kind(out: &impl Print, kind: HostKind) -> io::Result<()> {
-    match kind {
-        HostKind::Kind(number) => print::two(out, 1, number as u64),
-        HostKind::Absent => print::two(out, 0, 0),
-    }
+    known(out, host_type(line).map(|named| u8::from(named)))
 }
 
 // `hostkind n`: the host kind on the wire of the type that a byte names.
 pub fn hostkind(out: &impl Print, line: &[u8]) -> io::Result<()> {
-    match HostType::from_byte(words::u8_at(line, 1)) {
-        HostTypeRead::Known(known) => kind(out, known.kind()),
-        HostTypeRead::Unknown => print::two(out, 0, 0),
-    }
-}
-
-// A host's type and its kind on the wire.
-fn type_and_kind(out: &impl Print, host: HostAddr) -> io::Result<()> {
-    print::byte(out, host.host_type().to_byte())?;
-    print::byte(out, host.kind())
+    known(out, host_type(line).and_then(|named| named.kind()))
 }
 
 // `hostlength k`: how many bytes a host of kind k takes; for kinds 0, 3 and 4 then the number of its type, and k.
 pub fn hostlength(out: &impl Print, line: &[u8]) -> io::Result<()> {
-    let kind = words::u8_at(line, 1);
-    print::number(out, AddressInfo(kind).address_length() as u64)?;
-    match kind {
-        0 => type_and_kind(out, HostAddr::V4),
-        3 => type_and_kind(out, HostAddr::V6),
-        4 => type_and_kind(out, HostAddr::Svc(ServiceAddr(0))),
-        _ => print::two(out, 0, 0),
+    let kind = words::number_at(line, 1);
+    print::number(out, AddressInfo(kind).address_length())?;
+    match packets::named_host(kind, 0) {
+        Some(host) => print::two(out, u8::from(HostType::from(host)), host.kind()),
+        None => print::two(out, 0, 0),
     }
 }
 
 // `constant k`: a constant of the library, by its place in this list; 0 beyond it.
 pub fn constant(out: &impl Print, k: u8) -> io::Result<()> {
     match k {
-        0 => print::two(out, U2::BITS as u64, U2::MAX as u64),
-        1 => print::two(out, U4::BITS as u64, U4::MAX as u64),
-        2 => print::two(out, U6::BITS as u64, U6::MAX as u64),
-        3 => print::two(out, U20::BITS as u64, U20::MAX as u64),
-        4 => print::two(
-            out,
-            PathMetaHeader::LENGTH as u64,
-            DataplanePath::MAX_LEN as u64,
-        ),
-        5 => print::two(out, InfoField::LENGTH as u64, HopField::LENGTH as u64),
+        0 => print::two(out, U2::BITS, U2::MAX),
+        1 => print::two(out, U4::BITS, U4::MAX),
+        2 => print::two(out, U6::BITS, U6::MAX),
+        3 => print::two(out, U20::BITS, U20::MAX),
+        4 => print::two(out, PathMetaHeader::LENGTH, DataplanePath::MAX_LEN),
+        5 => print::two(out, InfoField::LENGTH, HopField::LENGTH),
         6 => print::two(
             out,
-            InfoField::CONSTRUCTION_DIRECTION_FLAG as u64,
-            InfoField::PEERING_FLAG as u64,
+            InfoField::CONSTRUCTION_DIRECTION_FLAG,
+            InfoField::PEERING_FLAG,
         ),
         7 => print::two(
             out,
-            CommonHeader::LENGTH as u64,
-            CommonHeader::HEADER_LENGTH_MULTIPLICAND as u64,
+            CommonHeader::LENGTH,
+            CommonHeader::HEADER_LENGTH_MULTIPLICAND,
         ),
         8 => print::two(
             out,
-            CommonHeader::MAX_HEADER_LENGTH as u64,
-            HostAddr::MAX_ADDRESS_BYTES as u64,
+            CommonHeader::MAX_HEADER_LENGTH,
+            HostAddr::MAX_ADDRESS_BYTES,
         ),
-        9 => print::two(
-            out,
-            DataplanePath::EMPTY as u64,
-            DataplanePath::SCION as u64,
-        ),
-        10 => print::two(out, IsdAsn::WILDCARD.to_u64(), IsdAsn::MAX.to_u64()),
-        11 => print::two(out, IsdAsn::BITS as u64, IsdAsn::ASN_BITS as u64),
-        12 => print::two(
-            out,
-            ServiceAddr::DAEMON.0 as u64,
-            ServiceAddr::CONTROL.0 as u64,
-        ),
-        13 => print::two(out, ServiceAddr::WILDCARD.0 as u64, 0),
+        9 => print::two(out, DataplanePath::EMPTY, DataplanePath::SCION),
+        10 => print::two(out, IsdAsn::WILDCARD.0, IsdAsn::MAX.0),
+        11 => print::two(out, IsdAsn::BITS, IsdAsn::ASN_BITS),
+        12 => print::two(out, ServiceAddr::DAEMON.0, ServiceAddr::CONTROL.0),
+        13 => print::two(out, ServiceAddr::WILDCARD.0, 0),
         _ => print::two(out, 0, 0),
     }
 }

@@ -1,113 +1,88 @@
 // The lines of a packet's common header and address header.
 use crate::text;
+use crate::text::Hex;
 use address::host::HostAddr;
 use address::ia::IsdAsn;
 use packet_address_header::{AddressHeader, HostAddress, MaybeEncoded};
 use packet_common_header::CommonHeader;
-use std::io;
+use std::fmt::Display;
+use std::{fmt, io};
 
 // What a path type means.
-fn path_type(out: &impl Print, path_type: u8) -> io::Result<()> {
-    text::name(out, b"  path type")?;
-    text::number(out, path_type as u64)?;
-    if path_type == 0 {
-        text::text(out, b" empty")?;
-    } else {
-        if path_type == 1 {
-            text::text(out, b" standard")?;
-        } else {
-            text::text(out, b" opaque")?;
-        }
+fn path_type_name(path_type: u8) -> &'static str {
+    match path_type {
+        0 => "empty",
+        1 => "standard",
+        _ => "opaque",
     }
-    text::end(out)
 }
 
 pub fn common(out: &impl Print, header: CommonHeader) -> io::Result<()> {
-    text::text(out, b"common header\n")?;
-    text::number_line(out, b"  version", header.version as u64)?;
-    text::number_line(out, b"  traffic class", header.traffic_class as u64)?;
-    text::number_line(out, b"  flow", header.flow_id as u64)?;
-    text::number_line(out, b"  next header", header.next_header as u64)?;
-    text::number_line(
+    let path_type = header.path_type;
+    print!(out; "common header\n")?;
+    text::line(out, "  version", header.version)?;
+    text::line(out, "  traffic class", header.traffic_class)?;
+    text::line(out, "  flow", header.flow_id)?;
+    text::line(out, "  next header", header.next_header)?;
+    text::line(out, "  header length factor", header.header_length_factor)?;
+    text::size_line(out, "  header length", header.header_length())?;
+    text::size_line(out, "  payload length", header.payload_size())?;
+    text::line(
         out,
-        b"  header length factor",
-        header.header_length_factor as u64,
+        "  path type",
+        format_args!("{path_type} {}", path_type_name(path_type)),
     )?;
-    text::size_line(out, b"  header length", header.header_length() as u64)?;
-    text::size_line(out, b"  payload length", header.payload_length as u64)?;
-    path_type(out, header.path_type)?;
-    text::number_line(out, b"  destination kind", header.destination_kind as u64)?;
-    text::number_line(out, b"  source kind", header.source_kind as u64)?;
-    text::number_line(out, b"  reserved", header.reserved as u64)
+    text::line(out, "  destination kind", header.destination_kind)?;
+    text::line(out, "  source kind", header.source_kind)?;
+    text::line(out, "  reserved", header.reserved)
 }
 
 // A network: its number, and the ISD and the AS that it is made of.
-fn network(out: &impl Print, title: &[u8], isd_asn: IsdAsn) -> io::Result<()> {
-    text::name(out, title)?;
-    text::hex_64(out, isd_asn.to_u64())?;
-    text::text(out, b" isd ")?;
-    text::number(out, isd_asn.isd() as u64)?;
-    text::text(out, b" as ")?;
-    text::number(out, isd_asn.asn())?;
-    text::end(out)
+fn network(out: &impl Print, title: &str, isd_asn: IsdAsn) -> io::Result<()> {
+    text::line(
+        out,
+        title,
+        format_args!(
+            "0x{:016x} isd {} as {}",
+            isd_asn.0,
+            isd_asn.isd(),
+            isd_asn.asn()
+        ),
+    )
 }
 
-// The four numbers of an IPv4 address.
-fn ipv4(out: &impl Print, bytes: [u8; 16]) -> io::Result<()> {
-    text::text(out, b"IPv4 ")?;
-    text::number(out, bytes[0] as u64)?;
-    text::text(out, b".")?;
-    text::number(out, bytes[1] as u64)?;
-    text::text(out, b".")?;
-    text::number(out, bytes[2] as u64)?;
-    text::text(out, b".")?;
-    text::number(out, bytes[3] as u64)
-}
-
-// A host that has a name; a service has its number and its padding.
-fn named(out: &impl Print, host: HostAddr, bytes: [u8; 16], padding: u16) -> io::Result<()> {
-    match host {
-        HostAddr::V4 => ipv4(out, bytes),
-        HostAddr::V6 => {
-            text::text(out, b"IPv6 ")?;
-            text::hex(out, &bytes)
+// A host: the four numbers of an IPv4 address, the bytes of an IPv6 address, a service's number and its padding; of a kind without a
+// name the first bytes of the sixteen.
+fn host(out: &impl Print, title: &str, address: HostAddress) -> io::Result<()> {
+    let bytes = address.bytes;
+    match address.host {
+        MaybeEncoded::Decoded(HostAddr::V4) => text::line(
+            out,
+            title,
+            format_args!("IPv4 {}.{}.{}.{}", bytes[0], bytes[1], bytes[2], bytes[3]),
+        ),
+        MaybeEncoded::Decoded(HostAddr::V6) => {
+            text::line(out, title, format_args!("IPv6 {}", Hex(&bytes)))
         }
-        HostAddr::Svc(service) => {
-            text::text(out, b"service ")?;
-            text::hex_16(out, service.0)?;
-            text::text(out, b" padding ")?;
-            text::hex_16(out, padding)
+        MaybeEncoded::Decoded(HostAddr::Svc(service)) => text::line(
+            out,
+            title,
+            format_args!(
+                "service 0x{:04x} padding 0x{:04x}",
+                service.0, address.padding
+            ),
+        ),
+        MaybeEncoded::Encoded(_) => {
+            let own = &bytes[..address.encoded_length()];
+            text::line(out, title, format_args!("opaque {}", Hex(own)))
         }
     }
-}
-
-// A host of a kind without a name: the first bytes of the sixteen.
-fn opaque(out: &impl Print, address: HostAddress) -> io::Result<()> {
-    let bytes = address.bytes;
-    let length = address.encoded_length();
-    text::text(out, b"opaque ")?;
-    text::hex(out, &bytes[..length])
-}
-
-fn host(out: &impl Print, title: &[u8], address: HostAddress) -> io::Result<()> {
-    let host = address.host;
-    let bytes = address.bytes;
-    text::name(out, title)?;
-    match host {
-        MaybeEncoded::Decoded(decoded) => named(out, decoded, bytes, address.padding)?,
-        MaybeEncoded::Encoded(_) => opaque(out, address)?,
-    }
-    text::end(out)
 }
 
 pub fn address(out: &impl Print, header: AddressHeader) -> io::Result<()> {
-    let to = header.destination_ia;
-    let from = header.source_ia;
-    let destination = header.destination;
-    let source = header.source;
-    text::text(out, b"address header\n")?;
-    network(out, b"  destination network", to)?;
-    network(out, b"  source network", from)?;
-    host(out, b"  destination host", destination)?;
-    host(out, b"  source host", source)
+    print!(out; "address header\n")?;
+    network(out, "  destination network", header.destination_ia)?;
+    network(out, "  source network", header.source_ia)?;
+    host(out, "  destination host", header.destination)?;
+    host(out, "  source host", header.source)
 }

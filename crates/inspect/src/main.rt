@@ -12,8 +12,10 @@ mod unread;
 
 ghost use Rattle.std.specs.Prelude.{◌≤◌, length};
 
-use errors::packet_error::Decoded;
+use crate::text::Hex;
+use errors::packet_error::DecodeError;
 use packet::raw::ScionPacketRaw;
+use path::dataplane::DataplanePath;
 use path::standard::Part;
 use std::env::{Env, FillError};
 use std::fs::Files;
@@ -25,82 +27,65 @@ const NAME_TOO_LONG: i32 = 36;
 
 // The bytes after a packet's payload, and whether they read as a packet.
 fn following(out: &impl Print, rest: &[u8], at: usize) -> io::Result<()> {
-    let read = ScionPacketRaw::decode_capture(rest);
-    let packet = read.packet;
-    let answer = packet.answer;
-    text::size_line(out, b"after the payload", rest.len() as u64)?;
-    if let Decoded::Accepted = answer {
-        text::name(out, b"second packet")?;
-        text::text(out, b"begins at ")?;
-        text::number(out, at as u64)?;
-        text::end(out)?;
+    text::size_line(out, "after the payload", rest.len())?;
+    match ScionPacketRaw::decode_capture(rest) {
+        Ok(_) => text::line(out, "second packet", format_args!("begins at {at}")),
+        Err(_) => Ok(()),
     }
-    Ok(())
 }
 
 // What follows a payload, if anything.
 fn after(out: &impl Print, bytes: &[u8], payload: Part) -> io::Result<()> {
-    let start = payload.start;
-    let len = payload.len;
-    if bytes.len() < start {
+    let from_payload = bytes.get(payload.start..).unwrap_or(&[]);
+    let rest = from_payload.get(payload.len..).unwrap_or(&[]);
+    if rest.is_empty() {
         return Ok(());
     }
-    if bytes.len() - start <= len {
-        return Ok(());
-    }
-    let at = start + len;
-    following(out, &bytes[at..], at)
+    following(out, rest, bytes.len() - rest.len())
 }
 
 // A packet that was split.
 fn accepted(out: &impl Print, bytes: &[u8], packet: ScionPacketRaw) -> io::Result<()> {
-    let common = packet.common;
-    let address = packet.address;
-    let path = packet.path;
-    let path_part = packet.path_part;
-    let payload_part = packet.payload_part;
     let path_bytes = packet.path(bytes);
-    header_lines::common(out, common)?;
-    header_lines::address(out, address)?;
-    text::text(out, b"path\n")?;
-    text::number_line(out, b"  starts at", path_part.start as u64)?;
-    text::hex_line(out, b"  bytes", path_bytes)?;
-    if common.path_type == 1 {
-        path_lines::path(out, path_bytes, path)?;
+    header_lines::common(out, packet.common)?;
+    header_lines::address(out, packet.address)?;
+    print!(out; "path\n")?;
+    text::line(out, "  starts at", packet.path_part.start)?;
+    text::line(out, "  bytes", Hex(path_bytes))?;
+    if packet.common.path_type == DataplanePath::SCION {
+        path_lines::path(out, path_bytes, packet.path)?;
     }
-    text::text(out, b"payload\n")?;
-    text::number_line(out, b"  starts at", payload_part.start as u64)?;
-    text::hex_line(out, b"  bytes", packet.payload(bytes))?;
-    after(out, bytes, payload_part)
+    print!(out; "payload\n")?;
+    text::line(out, "  starts at", packet.payload_part.start)?;
+    text::line(out, "  bytes", Hex(packet.payload(bytes)))?;
+    after(out, bytes, packet.payload_part)
 }
 
-// What a station answers, where that is another number than the capture's.
-fn at_a_station(out: &impl Print, bytes: &[u8], number: u8) -> io::Result<()> {
-    let packet = ScionPacketRaw::decode(bytes);
-    let answer = packet.answer;
-    if let Decoded::Refused(error) = answer {
-        if error.number() != number {
-            refusal::line(out, b"at a station", error)?;
+// A station's refusal, where it is another than the capture's.
+fn at_a_station(out: &impl Print, bytes: &[u8], capture: Option<DecodeError>) -> io::Result<()> {
+    let station = ScionPacketRaw::decode(bytes).err();
+    match station {
+        Some(error) if station != capture => refusal::line(out, "at a station", error),
+        _ => Ok(()),
+    }
+}
+
+// One capture. One that is refused is not short.
+fn inspect(out: &impl Print, bytes: &[u8]) -> io::Result<()> {
+    text::size_line(out, "packet", bytes.len())?;
+    match ScionPacketRaw::decode_capture(bytes) {
+        Ok(read) => {
+            text::line(out, "answer", "0 accepted")?;
+            text::flag_line(out, "short", read.short)?;
+            at_a_station(out, bytes, None)?;
+            accepted(out, bytes, read.packet)
+        }
+        Err(error) => {
+            refusal::line(out, "answer", error)?;
+            text::flag_line(out, "short", false)?;
+            at_a_station(out, bytes, Some(error))
         }
     }
-    Ok(())
-}
-
-// One capture.
-fn inspect(out: &impl Print, bytes: &[u8]) -> io::Result<()> {
-    text::size_line(out, b"packet", bytes.len() as u64)?;
-    let read = ScionPacketRaw::decode_capture(bytes);
-    let packet = read.packet;
-    let answer = packet.answer;
-    if let Decoded::Refused(error) = answer {
-        refusal::line(out, b"answer", error)?;
-        text::flag_line(out, b"short", read.short)?;
-        return at_a_station(out, bytes, error.number());
-    }
-    text::text_line(out, b"answer", b"0 accepted")?;
-    text::flag_line(out, b"short", read.short)?;
-    at_a_station(out, bytes, 0)?;
-    accepted(out, bytes, packet)
 }
 
 // Reads until a file ends, a read fails or a buffer is full; how many bytes it then holds.
@@ -110,9 +95,8 @@ fn read_full(file: &mut impl Read, buffer: &mut [u8]) -> usize
     let mut filled: usize = 0;
     while filled < buffer.len() {
         match file.read(&mut buffer[filled..]) {
-            Ok(0) => break,
+            Ok(0) | Err(_) => break,
             Ok(got) => filled += got,
-            Err(_) => break,
         }
     }
     filled
@@ -145,10 +129,10 @@ fn open<R: Files>(rt: &R, name: &[u8]) -> io::Result<R::File> {
 
 // The packet in a file.
 fn inspect_file(rt: &(impl Files + Print), err: &impl Print, name: &[u8]) -> io::Result<()> {
-    text::text_line(rt, b"file", name)?;
+    text::name_line(rt, "file", name)?;
     match open(rt, name) {
         Ok(mut file) => inspect_open(rt, err, name, &mut file),
-        Err(error) => unread::failed(rt, err, name, b"can't be opened", error),
+        Err(error) => unread::failed(rt, err, name, "can't be opened", error),
     }
 }
 
@@ -159,19 +143,16 @@ fn inspect_named(rt: &(impl Env + Files + Print), err: &impl Print, k: usize) ->
         Ok(length) => inspect_file(rt, err, &name[..length]),
         Err(_) => {
             let error = io::Error::from_raw_os_error(NAME_TOO_LONG);
-            unread::failed(rt, err, b"argument", b"the name is too long", error)
+            unread::failed(rt, err, b"argument", "the name is too long", error)
         }
     }
 }
 
 // How many arguments there are, the program's name among them.
 fn argument_count(rt: &impl Env) -> usize {
-    for k in 0..usize::MAX {
-        if let Err(FillError::NotPresent) = rt.arg(k, &mut []) {
-            return k;
-        }
-    }
-    usize::MAX
+    (0..usize::MAX)
+        .find(|k| matches!(rt.arg(*k, &mut []), Err(FillError::NotPresent)))
+        .unwrap_or(usize::MAX)
 }
 
 fn main(rt: HostRuntime) -> io::Result<()> {

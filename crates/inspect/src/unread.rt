@@ -4,18 +4,15 @@ use std::io;
 use std::io::{Cursor, ErrorKind, Write};
 
 // A file that holds something else than one packet.
-fn wrong(out: &impl Print, err: &impl Print, name: &[u8], words: &[u8]) -> io::Result<()> {
-    text::complaint(err, name, words)?;
-    text::text_line(out, b"no packet", words)
+fn wrong(out: &impl Print, err: &impl Print, name: &[u8], words: &str) -> io::Result<()> {
+    text::complaint(err, name, words.as_bytes())?;
+    text::line(out, "no packet", words)
 }
 
 // The words that begin an error's text, before the system's number in brackets or the zeros that follow the text.
 fn words(text: &[u8]) -> &[u8] {
     for (i, byte) in text.iter().enumerate() {
-        if *byte == 0 {
-            return &text[..i];
-        }
-        if text[i..].starts_with(b" (") {
+        if *byte == 0 || text[i..].starts_with(b" (") {
             return &text[..i];
         }
     }
@@ -35,11 +32,11 @@ pub fn failed(
     out: &impl Print,
     err: &impl Print,
     name: &[u8],
-    words: &[u8],
+    words: &str,
     error: io::Error,
 ) -> io::Result<()> {
     complain(err, name, error)?;
-    text::text_line(out, b"no packet", words)
+    text::line(out, "no packet", words)
 }
 
 // A file of which a read has just failed.
@@ -49,21 +46,22 @@ pub fn not_read(
     name: &[u8],
     error: io::Error,
 ) -> io::Result<()> {
-    if error.kind() == ErrorKind::IsADirectory {
-        return failed(out, err, name, b"a folder, not a file", error);
-    }
-    failed(out, err, name, b"can't be read", error)
+    let words = match error.kind() {
+        ErrorKind::IsADirectory => "a folder, not a file",
+        _ => "can't be read",
+    };
+    failed(out, err, name, words, error)
 }
 
 // A file of which `length` bytes were read and that is not at its end: the next read gave a byte.
 pub fn line(out: &impl Print, err: &impl Print, name: &[u8], length: usize) -> io::Result<()> {
     if length < 65536 {
-        return wrong(out, err, name, b"grew while it was read");
+        return wrong(out, err, name, "grew while it was read");
     }
     wrong(
         out,
         err,
         name,
-        b"holds more than 65,536 bytes, which is more than inspect reads",
+        "holds more than 65,536 bytes, which is more than inspect reads",
     )
 }
