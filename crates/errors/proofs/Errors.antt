@@ -1,15 +1,12 @@
 -- The value beside a number; what the number 0 says.
 -- Assumes nothing.
-use Prim.Native.Nat.{ℕ}
-use mathlib.Core.Path.{◌≡◌, refl, sym, ap}
+use mathlib.Core.Path.{◌≡◌, refl}
 use native.Mathlib.Omega.{arith}
 use Rattle.std.specs.Prelude.{true, Result, Ok, Err, is_ok}
 use Rattle.errors.specs.Errors.{kind_number, decode_number, decode_value, decoded_number, ValueOfTwoAndThree}
 use Rattle.errors.specs.declared.path_error.DataplanePathErrorKind.{DataplanePathErrorKind}
 use Rattle.errors.specs.declared.path_error.DataplanePathErrorKind.TheVariants as kind
 use Rattle.errors.specs.declared.packet_error.DecodeError.{DecodeError}
-use Rattle.errors.specs.declared.path_error.PathError.{PathError}
-use Rattle.errors.specs.declared.packet_error.EncodeError.{EncodeError}
 use Rattle.errors.specs.declared.packet_error.DecodeError.TheVariants as decode
 use Rattle.errors.specs.declared.path_error.PathError.TheVariants as path
 

@@ -1,5 +1,5 @@
 -- A packet: the draft's Common Header, Address Header, path and payload, one after the other.
-use Rattle.std.specs.Prelude.{ℕ, ◌+◌, Bool, false, not, cond, List, [], length, take, drop, ltb, leb, eqb, Result, Ok}
+use Rattle.std.specs.Prelude.{ℕ, ◌+◌, Bool, false, not, cond, List, length, take, drop, ltb, leb, eqb, Result, Ok}
 use Rattle.wire_encoding.specs.Result.{require, ◌>>◌, ◌>>=◌, mapped, or_else}
 use Rattle.errors.specs.declared.packet_error.DecodeError.{DecodeError}
 use Rattle.errors.specs.declared.packet_error.DecodeError.TheVariants.{PacketEmptyOrTruncated, InconsistentPathLength}

@@ -19,7 +19,7 @@ use Rattle.wire_encoding.specs.Result.{require}
 use Rattle.wire_encoding.specs.BigEndian.{bytes_of, part, written, placed}
 use Rattle.wire_encoding.proofs.Result.{same_value, held}
 use Rattle.wire_encoding.proofs.Lists.{length_part, written_after, set-sets}
-use Rattle.wire_encoding.proofs.BigEndian.{or_zero_is, length_bytes_of, bytes_read, high_first}
+use Rattle.wire_encoding.proofs.BigEndian.{or_zero_is, length_bytes_of, high_first}
 use Rattle.wire_encoding.proofs.Writes.{done, no_room, placed_is, placed-whole, lent_run}
 use Rattle.address.specs.declared.host.HostAddr.TheVariants.{V4, V6, Svc}
 use Rattle.errors.specs.declared.packet_error.DecodeError.{DecodeError}

@@ -1,7 +1,7 @@
 -- The time left of a path's record: no bytes are looked at.
-use Rattle.std.specs.Prelude.{ℕ, ℤ, pos, leb, Result, Ok}
+use Rattle.std.specs.Prelude.{ℕ, ℤ, leb, Result, Ok}
 use Rattle.std.proofs.Math.IntN.{sub_ℕ}
-use Rattle.wire_encoding.specs.Result.{require, ◌>>◌, or_else}
+use Rattle.wire_encoding.specs.Result.{require, ◌>>◌}
 use Rattle.errors.specs.declared.path_error.PathError.{PathError}
 use Rattle.errors.specs.declared.path_error.PathError.TheVariants.{NumberTooWide}
 use Rattle.path_least_expiry.specs.Expiry.{largest_expiry}

@@ -1,12 +1,11 @@
 -- The expiry of a path and of its segments, and the time left, by the path's bytes: reading, 8, 10.
 use Rattle.std.specs.Prelude.{ℕ, ◌<◌, ◌≡◌, List, get_or, ℤ, ltb, leb, Result, Ok}
 use Rattle.std.proofs.Math.IntN.{sub_ℕ}
-use Rattle.wire_encoding.specs.Result.{require, and_then, ◌>>◌, ◌>>=◌, mapped, or_else}
+use Rattle.wire_encoding.specs.Result.{require, and_then, ◌>>◌, ◌>>=◌, mapped}
 use Rattle.path_meta_header.specs.MetaHeader.{info_fields_count}
 use Rattle.errors.specs.declared.path_error.PathError.{PathError}
 use Rattle.errors.specs.declared.path_error.PathError.TheVariants.{NoSuchField, NumberTooWide}
 use Rattle.path_least_expiry.specs.Expiry.{segment_expiry, path_expiry}
-use Rattle.path.specs.Standard.{beside}
 use Rattle.path.specs.TimeLeft.{largest_time, time_left_of}
 use Rattle.path.specs.Dataplane.{standard, path_of}
 use Rattle.path.specs.declared.standard.StandardPath.{StandardPath}

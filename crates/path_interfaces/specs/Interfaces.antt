@@ -1,7 +1,7 @@
 -- The interfaces of a path in the order of travel: each link between two hop fields has two, the egress of the one and the ingress of
 -- the other.
 use Rattle.std.specs.Prelude.{ℕ, ◌+◌, ◌-◌, ◌*◌, ◌/◌, ◌%◌, ◌≤◌, ◌<◌, ◌≡◌, true, false, cond, List, length, ltb, eqb, Result, Ok}
-use Rattle.wire_encoding.specs.Result.{require, ◌>>◌, ◌>>=◌, mapped, or_else}
+use Rattle.wire_encoding.specs.Result.{require, ◌>>◌, ◌>>=◌, mapped}
 use Rattle.path_meta_header.specs.MetaHeader.{info_fields_count, hop_fields_count, segment_of, interfaces_count, link_end, hop_field_of, hop_start}
 use Rattle.path_meta_header.specs.declared.PathMetaHeader.{PathMetaHeader}
 use Rattle.path_fields.specs.Fields.{Interface, ingress_interface, egress_interface}
@@ -9,8 +9,7 @@ use Rattle.errors.specs.declared.path_error.PathError.{PathError}
 use Rattle.errors.specs.declared.path_error.PathError.TheVariants.{NoSuchField}
 use Rattle.path.specs.Dataplane.{standard}
 use Rattle.path_interfaces.specs.declared.InterfaceAt.{InterfaceAt}
-use Rattle.path.specs.Standard.{info_at, hop_at, peering_path, beside}
-use Rattle.path.specs.declared.standard.StandardPath.{StandardPath}
+use Rattle.path.specs.Standard.{info_at, hop_at, peering_path}
 
 -- how many there are: 2 · (N − 1) on a peering path, whose segments a link joins too; on other paths the header's 2 · (N − I)
 unfoldable pub count_on : List ℕ → PathMetaHeader → ℕ

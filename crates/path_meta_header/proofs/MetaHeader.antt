@@ -12,8 +12,7 @@ use borrow.Author.Tests.{ltb-true, ltb-false, eqb-true, eqb-false, lt-ltb, le-lt
 use Rattle.wire_encoding.proofs.Lists.{by_lt}
 use Rattle.wire_encoding.proofs.Result.{held}
 use Rattle.path_meta_header.specs.declared.PathMetaHeader.{PathMetaHeader}
-use Rattle.std.specs.Prelude.{Result, Ok, Err}
-use Rattle.errors.specs.declared.packet_error.DecodeError.{DecodeError}
+use Rattle.std.specs.Prelude.{Ok, Err}
 use Rattle.errors.specs.declared.packet_error.DecodeError.TheVariants.{InvalidPath}
 use Rattle.errors.specs.declared.path_error.DataplanePathErrorKind.TheVariants.{InvalidSegmentLengths}
 use Rattle.path_meta_header.specs.MetaHeader.{segment_length, info_fields_count, hop_fields_count, segment_of, first_hop_field, segment_of_link}

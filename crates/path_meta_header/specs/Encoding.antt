@@ -1,5 +1,5 @@
 -- A meta header written: the draft's six fields as one number, and as bytes.
-use Rattle.std.specs.Prelude.{ℕ, ◌+◌, ◌*◌, ◌^◌, ◌≤◌, ◌<◌, ◌≡◌, List, Bool, ◌&&◌, ltb, eqb, length, get_or, take, Result, Ok, Err}
+use Rattle.std.specs.Prelude.{ℕ, ◌+◌, ◌*◌, ◌^◌, ◌≤◌, ◌<◌, ◌≡◌, List, Bool, ◌&&◌, ltb, eqb, length, get_or, take, Result, Ok}
 use Rattle.wire_encoding.specs.Result.{require, ◌>>◌}
 use Rattle.wire_encoding.specs.BigEndian.{big_endian, bytes_of}
 use Rattle.errors.specs.declared.packet_error.EncodeError.{EncodeError}

@@ -1,6 +1,6 @@
 -- The draft's Path Meta Header: CurrINF (2 bits), CurrHF (6), RSV (6), Seg0Len, Seg1Len, Seg2Len (6 each); and what reading one finds.
-use Rattle.std.specs.Prelude.{ℕ, zero, suc, ◌+◌, ◌*◌, ◌-◌, ◌/◌, ◌%◌, ◌^◌, ◌<◌, ◌≡◌, List, [], ◌∷◌, Bool, true, cond, not, ◌&&◌, ◌||◌, get_or, ltb, eqb, Result, Ok, Err}
-use Rattle.wire_encoding.specs.Result.{require, ◌>>◌, or_else}
+use Rattle.std.specs.Prelude.{ℕ, zero, suc, ◌+◌, ◌*◌, ◌-◌, ◌/◌, ◌%◌, ◌^◌, ◌<◌, ◌≡◌, List, [], ◌∷◌, Bool, true, cond, not, ◌&&◌, ◌||◌, get_or, ltb, eqb, Result, Ok}
+use Rattle.wire_encoding.specs.Result.{require, ◌>>◌}
 use Rattle.wire_encoding.specs.BigEndian.{big_endian, room}
 use Rattle.path_fields.specs.Fields.{info_field_length, hop_field_length}
 use Rattle.path_meta_header.specs.declared.PathMetaHeader.{PathMetaHeader}

@@ -9,8 +9,8 @@ use borrow.Author.Tests.{eq-eqb, ne_eqb}
 use Rattle.wire_encoding.specs.Result.{done}
 use Rattle.wire_encoding.proofs.Result.{written_done}
 use Rattle.packet_common_header.specs.declared.CommonHeader.{CommonHeader}
-use Rattle.packet_common_header.specs.CommonHeader.{fields_fit, common_fits, common_bytes, write_common}
-use Rattle.packet_common_header.proofs.CommonHeaderLaws.{length-common_bytes, common_widths, common_written, Fields, first_fits}
+use Rattle.packet_common_header.specs.CommonHeader.{fields_fit, common_fits, write_common}
+use Rattle.packet_common_header.proofs.CommonHeaderLaws.{common_widths, common_written, Fields, first_fits}
 use Rattle.packet_common_header.proofs.CommonHeaderLaws.{common_digits}
 use borrow.Author.Rules.{rules}
 use Rattle.packet_common_header.proofs.CommonHeader.encode_to.Goals as goal
