@@ -11,20 +11,14 @@ use lib.Dec.{eqb}
 use lib.ListN.{length, get_or, length-append}
 use borrow.Author.Tests.{eq-eqb}
 use Rattle.std.specs.Prelude.{Ok}
-use Rattle.wire_encoding.specs.Result.{or_else}
-use Rattle.wire_encoding.specs.BigEndian.{big_endian, number_at, part}
+use Rattle.wire_encoding.specs.BigEndian.{part}
 use Rattle.wire_encoding.proofs.Bits.{flip_made, flip_above}
 use Rattle.wire_encoding.proofs.Lists.{Bytes, by_lt, length_part, get_or_part, part-part, part_left, get_or_by_part}
-use Rattle.wire_encoding.proofs.BigEndian.{or_zero_is, read_part, part_by_number}
+use Rattle.wire_encoding.proofs.BigEndian.{read_part, part_by_number}
 use Rattle.path_fields.specs.declared.InfoField.{InfoField}
 use Rattle.path_fields.specs.declared.HopField.{HopField}
 use Rattle.path_fields.specs.Fields.{info_field_at, new_info_field, info_field_in, constructed_dir, peering, with_constructed_dir, hop_field_at}
 use Rattle.path_fields.specs.Fields.{new_hop_field, hop_field_in, interface_of, ingress_interface, egress_interface}
-
--- a number of a field that a total read gave, of a part that holds it
-pub read_there : (width : ℕ) (bytes : List ℕ) (at : ℕ) {n : ℕ} → n ≡ or_else (number_at width bytes at) 0 → at + width ≤ length bytes
-    → n ≡ big_endian width bytes at
-read_there width bytes at e h = e ∙ or_zero_is width bytes at h
 
 first_byte : (at n : ℕ) (bytes : List ℕ) → 1 ≤ n → get_or (part at n bytes) 0 0 ≡ get_or bytes at 0
 first_byte at n bytes h = get_or_part at n bytes 0 (omega arith) ∙ ap (λ (i : ℕ). get_or bytes i 0) (add-zero at)

@@ -77,7 +77,3 @@ module _ {E A : Type 0} where
   pub written_done : (r : Result A E) (old : A) {new after : A} → r ≡ Ok new → after ≡ new → (Ok tt ≡ done r) × (after ≡ or_else r old)
   unfolding done
   written_done r old h e = rw h (refl, e)
-
-  pub refused_done : (r : Result A E) (old : A) {error : E} → r ≡ Err error → (Err error ≡ done r) × (old ≡ or_else r old)
-  unfolding done
-  refused_done r old h = rw h (refl, refl)

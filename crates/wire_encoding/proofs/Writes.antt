@@ -1,17 +1,16 @@
 -- The two answers of a writer, and what a run that is written leaves.
 -- Assumes nothing.
-use mathlib.Core.Path.{◌≡◌, refl, sym, ap, ◌∙◌}
+use mathlib.Core.Path.{◌≡◌, sym, ap, ◌∙◌}
 use mathlib.Core.List.{List, ◌++◌, append_assoc}
 use Prim.Native.Nat.{ℕ, ◌+◌, ◌≤◌, ◌<◌}
 use native.Mathlib.Omega.{arith}
 use lib.ListN.{length, take, drop}
-use lib.Seq.{sets, sets-eq, drop-drop, length-sets}
+use lib.Seq.{sets, sets-eq, drop-drop}
 use borrow.Author.Tests.{le-leb, lt-leb}
-use mathlib.Core.Bool.{Bool, true, false}
 use Rattle.std.specs.Prelude.{Ok, Err}
-use Rattle.wire_encoding.specs.Result.{require, or_else}
+use Rattle.wire_encoding.specs.Result.{or_else}
 use Rattle.wire_encoding.specs.BigEndian.{bytes_of, number_at, part, room, written, placed}
-use Rattle.wire_encoding.proofs.Lists.{Bytes, length_part, sets-whole}
+use Rattle.wire_encoding.proofs.Lists.{Bytes, sets-whole}
 use Rattle.wire_encoding.proofs.BigEndian.{or_zero_is, length_bytes_of, bytes_read}
 
 -- the two answers of a writer of a run of n bytes
@@ -27,15 +26,6 @@ module _ (dst : List ℕ) (at : ℕ) (run : List ℕ) (n : ℕ) (size : length r
   -- where there is room the bytes are written
   pub placed_is : at + n ≤ length dst → placed dst at run ≡ sets dst at run
   placed_is h = rw (done h)
-
--- a write keeps the length
-pub length-placed : (dst : List ℕ) (at : ℕ) (run : List ℕ) → length (placed dst at run) ≡ length dst
-unfolding written
-length-placed dst at run = go (room dst at (length run))
-  where
-    go : (t : Bool) → length (or_else (require {E = ℕ} t 9 (Ok (sets dst at run))) dst) ≡ length dst
-    go true = length-sets dst at run
-    go false = refl
 
 -- a run written over a destination of exactly its size is all that the destination then holds
 pub placed-whole : (run dst : List ℕ) → length run ≡ length dst → placed dst 0 run ≡ run
@@ -53,13 +43,6 @@ lent_run run dst to k size room =
     ap (λ (r : List ℕ). take to dst ++ (run ++ r)) (drop-drop k to dst ∙ ap (λ (i : ℕ). drop (to + i) dst) (sym size))
     ∙ sym (append_assoc (take to dst) run (drop (to + length run) dst))
     ∙ sym (sets-eq run dst to (omega arith))
-
--- and so is a run that fills the part
-pub lent_written : (run dst : List ℕ) (to k : ℕ) → length run ≡ k → to + k ≤ length dst → {now : List ℕ} → now ≡ placed (part to k dst) 0 run
-    → take to dst ++ (now ++ drop k (drop to dst)) ≡ sets dst to run
-lent_written run dst to k size room e =
-    ap (λ (r : List ℕ). take to dst ++ (r ++ drop k (drop to dst))) (e ∙ placed-whole run (part to k dst) (size ∙ sym (length_part to k dst room)))
-    ∙ lent_run run dst to k size room
 
 -- a number read and written elsewhere is its bytes copied, for the bytes of a number that was read are the bytes that were read
 pub number_copied : (width : ℕ) (src dst : List ℕ) (from to : ℕ) → Bytes src → from + width ≤ length src → to + width ≤ length dst
