@@ -23,7 +23,7 @@ pub fn record(out: &impl Print, meta_header: PathMetaHeader) -> io::Result<()> {
 
 // The header that stands in the place of one that was refused.
 fn zero() -> PathMetaHeader {
-    PathMetaHeader::from_u32(0)
+    PathMetaHeader::from(0)
 }
 
 // The three lengths from word `k` on.

@@ -69,7 +69,7 @@ pub fn written(out: &impl Print, written: Result<Extent, PathError>) -> io::Resu
 // A record made by hand: a header of zeros, and this expiry.
 fn made(expiry: u64) -> StandardPath {
     StandardPath {
-        meta_header: PathMetaHeader::from_u32(0),
+        meta_header: PathMetaHeader::from(0),
         expiry,
     }
 }

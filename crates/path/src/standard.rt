@@ -45,7 +45,7 @@ impl StandardPath {
     pub fn zero() -> StandardPath
         ensures { result ≡ spec.no_path }
     {
-        let meta_header = PathMetaHeader::from_u32(0);
+        let meta_header = PathMetaHeader::from(0);
         StandardPath {
             meta_header,
             expiry: 0,

@@ -65,6 +65,24 @@ fn at_start(first: u8, second: u8, third: u8) -> PathMetaHeader
     }
 }
 
+// The header that a word spells, whatever its values.
+impl From<u32> for PathMetaHeader {
+    ghost from_gives = { λ fields meta_header. meta_header ≡ spec.meta_of fields };
+
+    #[tactic(auto, unfolding(crate::specs::MetaHeader::meta_of))]
+    fn from(fields: u32) -> PathMetaHeader {
+        let first = nth_field(fields, 3);
+        let second = nth_field(fields, 4);
+        let third = nth_field(fields, 5);
+        PathMetaHeader {
+            current_info_field: nth_field(fields, 0),
+            current_hop_field: nth_field(fields, 1),
+            reserved: nth_field(fields, 2),
+            segment_lengths: [first, second, third],
+        }
+    }
+}
+
 impl PathMetaHeader {
     pub const LENGTH: usize = 4;
 
@@ -274,29 +292,13 @@ impl PathMetaHeader {
         Ok(self)
     }
 
-    // The header that a word spells, whatever its values.
-    #[tactic(auto, unfolding(crate::specs::MetaHeader::meta_of))]
-    pub fn from_u32(fields: u32) -> PathMetaHeader
-        ensures { result ≡ spec.meta_of fields }
-    {
-        let first = nth_field(fields, 3);
-        let second = nth_field(fields, 4);
-        let third = nth_field(fields, 5);
-        PathMetaHeader {
-            current_info_field: nth_field(fields, 0),
-            current_hop_field: nth_field(fields, 1),
-            reserved: nth_field(fields, 2),
-            segment_lengths: [first, second, third],
-        }
-    }
-
     // Reads the meta header that begins `bytes`.
     #[tactic(auto, using(wire_encoding::proofs::BigEndian::was_read, wire_encoding::proofs::BigEndian::was_truncated), unfolding(crate::specs::MetaHeader::read_meta))]
     pub fn decode(bytes: &[u8]) -> Result<PathMetaHeader, DecodeError>
         ensures { result ≡ spec.read_meta bytes.now }
     {
-        let fields = get(bytes, 0).ok_or(DecodeError::PacketEmptyOrTruncated)?;
-        PathMetaHeader::from_u32(fields).check()
+        let fields = get::<u32>(bytes, 0).ok_or(DecodeError::PacketEmptyOrTruncated)?;
+        PathMetaHeader::from(fields).check()
     }
 
     // WRITING, AND THE REVERSED PATH

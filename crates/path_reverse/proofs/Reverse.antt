@@ -9,15 +9,15 @@ use native.Mathlib.Numerals.{sub-one}
 use native.Mathlib.Omega.{arith}
 use lib.Dec.{eqb}
 use lib.Bits.{bit_xor}
-use lib.ListN.{length, take, drop, get_or, set, length-append, length-drop}
-use lib.Seq.{sets, drop-drop, length-sets, length-take-le}
+use lib.ListN.{length, take, drop, get_or, set, take-append-drop, length-append, length-take, length-drop}
+use lib.Seq.{sets, drop-drop, length-sets, length-take-le, take_all}
 use borrow.Rule.Slice.PartMut.{put_mid}
 use borrow.Author.Tests.{lt-ltb, ne_eqb}
 use Rattle.wire_encoding.specs.Result.{or_else}
 use Rattle.wire_encoding.specs.BigEndian.{big_endian, bytes_of, part, records}
 use Rattle.wire_encoding.proofs.Bits.{flip_bit}
-use Rattle.wire_encoding.proofs.Lists.{length_part, written_after}
-use Rattle.wire_encoding.proofs.BigEndian.{length_bytes_of}
+use Rattle.wire_encoding.proofs.Lists.{Bytes, bytes_part, bytes_drop, length_part, sets-whole, written_after}
+use Rattle.wire_encoding.proofs.BigEndian.{length_bytes_of, bytes_read}
 use Rattle.wire_encoding.proofs.Writes.{front-written, lent_run}
 use Rattle.path_meta_header.specs.MetaHeader.{nth_field, meta_of, info_fields_count, hop_fields_count, path_length}
 use Rattle.path_meta_header.specs.Reversal.{at_start, reversed_meta}
@@ -55,6 +55,30 @@ pub flipped_written : (field : List ℕ) → length field ≡ 8 → set field 0 
 unfolding flipped
 flipped_written [] h = absurd (omega arith)
 flipped_written (flags ∷ rest) h = ap (λ (b : ℕ). b ∷ rest) (flip_bit 0 flags)
+
+-- a hop field: eight bytes written as the number that they spell, then the four after them
+pub hop_field_copied : (src dst : List ℕ) → Bytes src → length src ≡ 12 → length dst ≡ 12 → {v w : ℕ} {a b : List ℕ}
+    → v ≡ big_endian 8 (take 8 src) 0 → w ≡ big_endian 4 (part 8 (length src - 8) src) 0 → a ≡ bytes_of 8 v → b ≡ bytes_of 4 w
+    → put_mid 8 (length (a ++ drop 8 dst) - 8) (a ++ drop 8 dst) b ≡ same src
+unfolding same
+hop_field_copied src dst bytes h g {v} {w} {a} {b} e f en fn =
+    let eight : length a ≡ 8 = ap length en ∙ length_bytes_of 8 v in
+    let four : length b ≡ 4 = ap length fn ∙ length_bytes_of 4 w in
+    let front : a ++ drop 8 dst ≡ sets dst 0 a = sym (front-written a dst 8 eight (omega arith)) in
+    let size : length (a ++ drop 8 dst) ≡ 12 = ap length front ∙ length-sets dst 0 a ∙ g in
+    let few : 8 ≤ length (take 8 src) = simp length-take (omega (arith, h)) in
+    let rest : length (drop 8 src) ≡ 4 = simp length-drop (omega (arith, h)) in
+    let first : a ≡ take 8 src =
+    en ∙ ap (bytes_of 8) e ∙ bytes_read 8 (take 8 src) (bytes_part 0 8 src bytes) 0 few ∙ take_all 8 (take 8 src) (simp length-take (omega arith)) in
+    let all : part 8 (length src - 8) src ≡ drop 8 src = take_all (length src - 8) (drop 8 src) (omega arith) in
+    let last : b ≡ drop 8 src =
+    fn ∙ ap (bytes_of 4) (f ∙ ap (λ (l : List ℕ). big_endian 4 l 0) all)
+    ∙ bytes_read 4 (drop 8 src) (bytes_drop 8 src bytes) 0 (omega arith) ∙ take_all 4 (drop 8 src) (omega arith) in
+    lent_run b (a ++ drop 8 dst) 8 (length (a ++ drop 8 dst) - 8) (omega arith) (omega arith)
+    ∙ ap (λ (l : List ℕ). sets l 8 b) front
+    ∙ written_after a b dst 0 8 eight
+    ∙ ap (sets dst 0) (ap₂ (λ (x y : List ℕ). x ++ y) first last ∙ take-append-drop 8 src)
+    ∙ sets-whole src dst (h ∙ sym g)
 
 -- RECORDS, THE LAST ONE FIRST
 

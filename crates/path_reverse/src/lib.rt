@@ -12,6 +12,7 @@ use path::dataplane::{DataplanePath, Extent};
 use path::standard::StandardPath;
 use path_fields::{HopField, InfoField};
 use path_meta_header::PathMetaHeader;
+use wire_encoding::number::Number;
 
 // Copies the path to the front of a destination of at least its length; the bytes behind it stay as they are. Answers with the
 // record of the path as written, and how many bytes it has.
@@ -66,9 +67,12 @@ impl ReversedField for HopField {
 
     const LENGTH: usize = HopField::LENGTH;
 
-    #[tactic(auto, unfolding(crate::specs::Reverse::same))]
+    // The bytes go by way of numbers: a copy from one slice to another looks first whether the two overlap.
     fn write_reversed(src: &[u8], dst: &mut [u8]) {
-        dst.copy_from_slice(src);
+        let first: u64 = Number::from_be(&src[..8]);
+        let last: u32 = Number::from_be(&src[8..]);
+        first.write_be(&mut dst[..8]);
+        last.write_be(&mut dst[8..]);
     }
 }
 
