@@ -93,8 +93,6 @@ pub length-wire_host_bytes : (w : WireHost) → length w.bytes ≡ 16 → length
 unfolding wire_host_bytes
 length-wire_host_bytes w e = simp length-take (omega (arith, host_few w.kind, e))
 
-pub ruleset length_wire_host = (length-wire_host_bytes)
-
 pub length-host_bytes : (a : HostAddress) → length a.bytes ≡ 16 → length (host_bytes a) ≡ host_length (kind_of a.host)
 unfolding host_on_wire
 length-host_bytes a e = ap length (sym (host_on_wire_lem a)) ∙ length-wire_host_bytes (host_on_wire a) (length-raw_of a.host a.bytes a.padding e)

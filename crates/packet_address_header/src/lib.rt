@@ -100,15 +100,19 @@ impl WireHost {
         AddressInfo(self.kind).address_length()
     }
 
-    // Writes the host at `at`, where there is room for it.
-    #[tactic(auto, using(wire_encoding::proofs::Writes::lent_run, crate::proofs::AddressHeaderLaws::length_wire_host), unfolding(crate::specs::AddressHeader::wire_host_bytes))]
+    // Writes the host at `at`, where there is room for it, in words of four bytes: a copy of any length costs a call.
+    #[tactic(auto, using(crate::proofs::AddressHeaderLaws::host_words), unfolding(crate::specs::AddressHeader::wire_host_bytes))]
     fn put(self, dst: &mut [u8], at: usize)
         requires { at + host_length self.kind ≤ length dst.old }
         ensures { dst.new ≡ sets dst.old at (spec.wire_host_bytes self) }
     {
         let len = self.encoded_length();
         let bytes = self.bytes;
-        dst[at..at + len].copy_from_slice(&bytes[..len]);
+        let mut done: usize = 0;
+        while done < len {
+            dst[at + done..at + done + 4].copy_from_slice(&bytes[done..done + 4]);
+            done += 4;
+        }
     }
 }
 
