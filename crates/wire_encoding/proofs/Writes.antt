@@ -8,10 +8,9 @@ use lib.ListN.{length, take, drop}
 use lib.Seq.{sets, sets-eq, drop-drop}
 use borrow.Author.Tests.{le-leb, lt-leb}
 use Rattle.std.specs.Prelude.{Ok, Err}
-use Rattle.wire_encoding.specs.Result.{or_else}
-use Rattle.wire_encoding.specs.BigEndian.{bytes_of, number_at, part, room, written, placed}
-use Rattle.wire_encoding.proofs.Lists.{Bytes, sets-whole}
-use Rattle.wire_encoding.proofs.BigEndian.{or_zero_is, length_bytes_of, bytes_read}
+use Rattle.wire_encoding.specs.BigEndian.{part, room, written, placed}
+use Rattle.wire_encoding.proofs.Lists.{sets-whole}
+use Rattle.wire_encoding.proofs.BigEndian.{length_bytes_of}
 
 -- the two answers of a writer of a run of n bytes
 module _ (dst : List ℕ) (at : ℕ) (run : List ℕ) (n : ℕ) (size : length run ≡ n) where
@@ -43,15 +42,6 @@ lent_run run dst to k size room =
     ap (λ (r : List ℕ). take to dst ++ (run ++ r)) (drop-drop k to dst ∙ ap (λ (i : ℕ). drop (to + i) dst) (sym size))
     ∙ sym (append_assoc (take to dst) run (drop (to + length run) dst))
     ∙ sym (sets-eq run dst to (omega arith))
-
--- a number read and written elsewhere is its bytes copied, for the bytes of a number that was read are the bytes that were read
-pub number_copied : (width : ℕ) (src dst : List ℕ) (from to : ℕ) → Bytes src → from + width ≤ length src → to + width ≤ length dst
-    → {n : ℕ} → n ≡ or_else (number_at width src from) 0 → {now : List ℕ} → now ≡ placed dst to (bytes_of width n)
-    → now ≡ sets dst to (part from width src)
-number_copied width src dst from to b there room {n} read e =
-    e
-    ∙ placed_is dst to (bytes_of width n) width (length_bytes_of width n) room
-    ∙ ap (sets dst to) (ap (bytes_of width) (read ∙ or_zero_is width src from there) ∙ bytes_read width src b from there)
 
 -- what a writer's goals need: its two answers, and a lent part that was written
 pub ruleset writes = (done, no_room, lent_run, length_bytes_of)
