@@ -61,7 +61,7 @@ tell(
 )
 tell("3 loops that count by hand", lines(r"\bwhile\b"))
 tell("3 loops over a range of indices", lines(r"\bfor \w+ in .*\.\."))
-tell("4 conversions that are no From or TryFrom", lines(r"\bfn (to_\w+|from_\w+|as_\w+|\w+_out|\w+_in|wide|lesser\w*)\("))
+tell("4 conversions that are no From or TryFrom", lines(r"\bfn (to_\w+|from_\w+|as_\w+|\w+_out|\w+_in|wide|lesser\w*)(<[^>]*>)?\("))
 tell("5 a contract's bytes and meta header side by side", lines(r"bytes: &(mut )?\[u8\], meta_header: PathMetaHeader"))
 tell("6 a length beside a buffer", lines(r"bytes: \[u8; \d+\],"))
 tell("7 a flag that says what a function does", lines(r"\bfn .*\b(capture|ingress|is_ingress): bool"))
