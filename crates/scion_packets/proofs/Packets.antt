@@ -21,7 +21,7 @@ use Rattle.path.specs.declared.standard.Part.{Part}
 use Rattle.scion_paths.specs.Answer.{decoded_out}
 use Rattle.scion_paths.proofs.Paths.{zeros}
 use Rattle.scion_packets.specs.declared.ScionHost.{ScionHost}
-use Rattle.scion_packets.specs.Packets.{host_out, no_packet, packet_out, capture_out}
+use Rattle.scion_packets.specs.Packets.{host_out, no_packet, packet_out, capture_out, ShortHandedOut}
 
 abbrev zero_host : ScionHost
 zero_host = record { kind = 0; service = 0; bytes = replicate 16 0; padding = 0 }
@@ -65,3 +65,8 @@ short_handed bytes = go (read_capture bytes)
         (capture_out (mapped (capture_read bytes) r))
     go (Ok p) = refl
     go (Err error) = rw (le-ltb (length bytes) 0 (omega arith)) refl
+
+-- the library's answer and C's say the same
+pub short_handed_out : ShortHandedOut
+unfolding capture_out
+short_handed_out bytes = refl

@@ -1,5 +1,5 @@
 -- What the calls on packets hand to C, and what they take from it, field by field.
-use Rattle.std.specs.Prelude.{ℕ, false, eqb, cond, Result}
+use Rattle.std.specs.Prelude.{ℕ, ◌≡◌, List, false, eqb, cond, Result}
 use Rattle.wire_encoding.specs.Result.{mapped, or_else}
 use Rattle.path.specs.Standard.{no_path}
 use Rattle.path.specs.Segment.{nowhere}
@@ -13,6 +13,7 @@ use Rattle.packet_address_header.specs.declared.HostAddress.{HostAddress}
 use Rattle.packet_address_header.specs.declared.AddressHeader.{AddressHeader}
 use Rattle.errors.specs.declared.packet_error.DecodeError.{DecodeError}
 use Rattle.errors.specs.declared.packet_error.EncodeError.{EncodeError}
+use Rattle.packet.specs.Raw.{capture_answer, short_capture}
 use Rattle.packet.specs.declared.raw.ScionPacketRaw.{ScionPacketRaw}
 use Rattle.packet.specs.declared.raw.CaptureRead.{CaptureRead}
 use Rattle.packet_headers.specs.declared.ScionHeaders as library
@@ -90,6 +91,10 @@ capture_out read =
       packet = packet_out (mapped (λ (c : CaptureRead). c.packet) read);
       is_short = or_else (mapped (λ (c : CaptureRead). c.short) read) false;
     }
+
+-- a theorem: what C is told of a capture is whether it is short; of one that is refused, no
+abbrev pub ShortHandedOut : Type 0
+ShortHandedOut = (bytes : List ℕ) → (capture_out (capture_answer bytes)).is_short ≡ short_capture bytes
 
 -- WRITING
 
