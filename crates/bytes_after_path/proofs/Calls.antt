@@ -28,7 +28,7 @@ use Rattle.path_least_expiry.specs.Expiry.{hop_expiry, segment_expiry}
 use Rattle.path_least_expiry.proofs.Least.{least-same}
 use Rattle.path.specs.Standard.{no_path, info_at, both_peering, peering_path}
 use Rattle.path.specs.declared.dataplane.Extent.{Extent}
-use Rattle.path.specs.Dataplane.{read_dataplane, path_of, path_left, standard, info_field_in, hop_field_in, segment_in, alerted}
+use Rattle.path.specs.Dataplane.{read_dataplane, path_of, written_answer, standard, info_field_in, hop_field_in, segment_in, alerted}
 use Rattle.path.proofs.Reading.{Readable, record_read, standard_read}
 use Rattle.path.proofs.Kept.{readable_after, expires_after, record_after, path-alerted}
 use Rattle.path_hop_fields.specs.PathRuns.{hop_fields_in}
@@ -175,19 +175,20 @@ module _ (p t : List ℕ) (m : PathMetaHeader) (r : Readable p m) where
       go false e = refl
 
   -- the record stays on both sides
-  pub alert_record_after : (bit : ℕ) (on : Bool) (j : ℕ) → path_left 1 (alerted bit on 1 (p ++ t) j) ≡ path_left 1 (alerted bit on 1 p j)
-  unfolding alerted
+  pub alert_record_after : (bit : ℕ) (on : Bool) (j : ℕ) → written_answer 1 (alerted bit on 1 (p ++ t) j) ≡ written_answer 1 (alerted bit on 1 p j)
+  unfolding alerted written_answer
   alert_record_after bit on j = rw (standard_read (p ++ t) m after, standard_read p m r) (go (hop_field_offset m j) refl)
     where
       flagged : List ℕ → ℕ → Result (List ℕ) PathError
       flagged bytes flags = Ok (set bytes flags (with_bit bit on (get_or bytes flags 0)))
 
       go : (offset : Result ℕ PathError) → hop_field_offset m j ≡ offset
-          → path_left 1 (and_then offset (flagged (p ++ t))) ≡ path_left 1 (and_then offset (flagged p))
+          → written_answer 1 (and_then offset (flagged (p ++ t))) ≡ written_answer 1 (and_then offset (flagged p))
       go (Ok flags) e =
-          path-alerted 1 (p ++ t) m j _ (standard_read (p ++ t) m after) e
+          ap Ok
+          (path-alerted 1 (p ++ t) m j _ (standard_read (p ++ t) m after) e
           ∙ path-after
-          ∙ sym (path-alerted 1 p m j _ (standard_read p m r) e)
+          ∙ sym (path-alerted 1 p m j _ (standard_read p m r) e))
       go (Err error) e = refl
 
   -- ALL OF THEM

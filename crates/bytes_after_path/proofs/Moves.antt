@@ -20,7 +20,7 @@ use Rattle.path_fields.specs.Fields.{peering}
 use Rattle.path_meta_header.specs.MetaHeader.{info_fields_count, hop_fields_count, segment_of, info_start, hop_start}
 use Rattle.path_meta_header.specs.declared.PathMetaHeader.{PathMetaHeader}
 use Rattle.path.specs.Standard.{info_at}
-use Rattle.path.specs.Dataplane.{path_of, path_left}
+use Rattle.path.specs.Dataplane.{path_of, written_answer}
 use Rattle.path.proofs.Reading.{Readable, standard_read}
 use Rattle.path.proofs.Kept.{readable_after}
 use Rattle.path_moves.specs.Rules.{owner_of, some_peering, peering_allowed, movable}
@@ -119,10 +119,11 @@ module _ (p t : List ℕ) (m : PathMetaHeader) (r : Readable p m) where
   unfolding moved
   moved-after = by_move (λ x y. or_else x (p ++ t) ≡ or_else y p ++ t) (λ m can. refl) (λ error. refl)
 
-  move_record_after : Bytes p → path_left 1 (move 1 (p ++ t)) ≡ path_left 1 (move 1 p)
+  move_record_after : Bytes p → written_answer 1 (move 1 (p ++ t)) ≡ written_answer 1 (move 1 p)
+  unfolding written_answer
   move_record_after small =
-      by_move (λ x y. path_left 1 x ≡ path_left 1 y)
-      (λ m can. path-after (move_bytes p m) t (moved_meta p m) (moved_known p m can small).path) (λ error. refl)
+      by_move (λ x y. written_answer 1 x ≡ written_answer 1 y)
+      (λ m can. ap Ok (path-after (move_bytes p m) t (moved_meta p m) (moved_known p m can small).path)) (λ error. refl)
 
 -- A WALK
 

@@ -5,7 +5,7 @@ use Rattle.wire_encoding.specs.Result.{mapped}
 use Rattle.path_meta_header.specs.declared.PathMetaHeader.{PathMetaHeader}
 use Rattle.path.specs.declared.standard.Part.{Part}
 use Rattle.path.specs.Standard.{read_path}
-use Rattle.path.specs.Dataplane.{read_dataplane, info_field_in, hop_field_in, segment_in, Among, part_in, path_left, alerted}
+use Rattle.path.specs.Dataplane.{read_dataplane, info_field_in, hop_field_in, segment_in, Among, part_in, written_answer, alerted}
 use Rattle.path_hop_fields.specs.PathRuns.{hop_fields_in}
 use Rattle.path_expiry.specs.Expiry.{segment_expiry_in, expiry_in, time_left_in}
 use Rattle.path_interfaces.specs.Interfaces.{interfaces_in, interface_in}
@@ -46,8 +46,8 @@ pub record ChangedAlike (p t : List ℕ) : Type 0 where
   pub moves : (limit : ℕ) → walk 1 (p ++ t) limit ≡ mapped (way_before t) (walk 1 p limit)
   pub after_move : moved 1 (p ++ t) ≡ moved 1 p ++ t
   pub after_walk : (limit : ℕ) → walked 1 (p ++ t) limit ≡ walked 1 p limit ++ t
-  pub alert_record : (bit : ℕ) (on : Bool) (j : ℕ) → path_left 1 (alerted bit on 1 (p ++ t) j) ≡ path_left 1 (alerted bit on 1 p j)
-  pub move_record : path_left 1 (move 1 (p ++ t)) ≡ path_left 1 (move 1 p)
+  pub alert_record : (bit : ℕ) (on : Bool) (j : ℕ) → written_answer 1 (alerted bit on 1 (p ++ t) j) ≡ written_answer 1 (alerted bit on 1 p j)
+  pub move_record : written_answer 1 (move 1 (p ++ t)) ≡ written_answer 1 (move 1 p)
   pub walk_record : (limit : ℕ) → walk_answer 1 (walk 1 (p ++ t) limit) ≡ walk_answer 1 (walk 1 p limit)
 
 -- for every path p of bytes that is read, and any t

@@ -5,7 +5,7 @@ use mathlib.Core.Bool.{Bool, true, false, cond}
 use mathlib.Core.List.{List, [], ◌∷◌, ◌++◌}
 use Prim.Native.Nat.{ℕ, suc, ◌+◌, ◌%◌, ◌≤◌, ◌<◌}
 use native.Mathlib.Omega.{arith}
-use lib.ListN.{length, take, set, replicate, length-take, length-append}
+use lib.ListN.{length, take, drop, set, replicate, length-take, length-append}
 use lib.Seq.{sets, length-sets, length-take-le, take-add}
 use lib.Dec.{leb, eqb}
 use borrow.Author.Tests.{lt-ltb, le-leb, lt-leb, leb-true, eq-eqb, eqb-true}
@@ -15,12 +15,12 @@ use Rattle.std.specs.Result.{IsOk}
 use Rattle.wire_encoding.specs.declared.write.InadequateBufferSize.{InadequateBufferSize}
 use Rattle.std.specs.Int.{bytes_high_first}
 use Rattle.wire_encoding.specs.Answers.{put_answer}
-use Rattle.wire_encoding.specs.Result.{require}
-use Rattle.wire_encoding.specs.BigEndian.{bytes_of, part, written, placed}
+use Rattle.wire_encoding.specs.Result.{require, or_else}
+use Rattle.wire_encoding.specs.BigEndian.{bytes_of, number_at, part, written, placed}
 use Rattle.wire_encoding.proofs.Result.{same_value, held}
-use Rattle.wire_encoding.proofs.Lists.{length_part, written_after, set-sets}
-use Rattle.wire_encoding.proofs.BigEndian.{or_zero_is, length_bytes_of, high_first}
-use Rattle.wire_encoding.proofs.Writes.{done, no_room, placed_is, placed-whole, lent_run}
+use Rattle.wire_encoding.proofs.Lists.{Bytes, length_part, written_after, set-sets}
+use Rattle.wire_encoding.proofs.BigEndian.{or_zero_is, bytes_read, length_bytes_of, high_first}
+use Rattle.wire_encoding.proofs.Writes.{done, no_room, placed_is, placed-whole, lent_run, lent_written}
 use Rattle.address.specs.declared.host.HostAddr.TheVariants.{V4, V6, Svc}
 use Rattle.errors.specs.declared.packet_error.DecodeError.{DecodeError}
 use Rattle.errors.specs.declared.packet_error.DecodeError.TheVariants.{PacketEmptyOrTruncated}
@@ -244,15 +244,19 @@ module _ {bytes dst₀ : List ℕ} {at len : ℕ} {dst : List ℕ} {done : ℕ} 
   pub word_room : done < len → at + len ≤ length dst₀ → at + done + 4 ≤ length dst
   word_room more room = omega (arith, length-written)
 
-  -- the next word goes over as it is: n bytes are lent for reading, and k for writing
-  pub word_written : done < len → len ≤ length bytes → at + len ≤ length dst₀ → {run : List ℕ} (n k : ℕ) → run ≡ part done n bytes → n ≡ 4 → k ≡ 4
-      → Written bytes dst₀ at len (put_mid (at + done) k dst run) (done + 4)
-  word_written more few room {run} n k read word four =
+  -- the next word goes over as a number, and the bytes of a number that was read are the bytes that were read
+  pub word_written : Bytes bytes → done < len → len ≤ length bytes → at + len ≤ length dst₀ → {n : ℕ} → n ≡ or_else (number_at 4 bytes done) 0
+      → (k : ℕ) → k ≡ 4 → {now : List ℕ} → now ≡ placed (part (at + done) k dst) 0 (bytes_of 4 n)
+      → Written bytes dst₀ at len (take (at + done) dst ++ (now ++ drop k (drop (at + done) dst))) (done + 4)
+  word_written b more few room {n} read k four e =
       let inside : at + done + 4 ≤ length dst = word_room more room in
+      let there : done + 4 ≤ length bytes = omega arith in
+      let word : bytes_of 4 n ≡ part done 4 bytes =
+      ap (bytes_of 4) (read ∙ or_zero_is 4 bytes done there) ∙ bytes_read 4 bytes b done there in
       record {
         so_far =
-            rw (read, word, four) (lent_run (part done 4 bytes) dst (at + done) 4 (length_part done 4 bytes (omega arith)) inside)
-            ∙ ap (λ (l : List ℕ). sets l (at + done) (part done 4 bytes)) w.so_far
+            lent_written (bytes_of 4 n) dst (at + done) k (length_bytes_of 4 n ∙ sym four) (omega arith) e
+            ∙ ap₂ (λ (l run : List ℕ). sets l (at + done) run) w.so_far word
             ∙ written_next (take done bytes) (part done 4 bytes) dst₀ at done (at + done) (length-take-le done bytes (omega arith)) refl
             ∙ ap (sets dst₀ at) (sym (take-add done 4 bytes));
         words = w.words;

@@ -16,6 +16,7 @@ use address::scion_address::ScionAddr;
 use address::service::ServiceAddr;
 use errors::packet_error::{DecodeError, EncodeError};
 use packet_common_header::AddressInfo;
+use wire_encoding::number::Number;
 use wire_encoding::read::get_or_zero;
 use wire_encoding::write::{InadequateBufferSize, put};
 
@@ -100,7 +101,8 @@ impl WireHost {
         AddressInfo(self.kind).address_length()
     }
 
-    // Writes the host at `at`, where there is room for it, in words of four bytes: a copy of any length costs a call.
+    // Writes the host at `at`, where there is room for it, in words of four bytes, each by way of a number: a copy of any length costs
+    // a call, and one from slice to slice looks first whether the two overlap.
     #[tactic(auto, using(crate::proofs::AddressHeaderLaws::host_words), unfolding(crate::specs::AddressHeader::wire_host_bytes))]
     fn put(self, dst: &mut [u8], at: usize)
         requires { at + host_length self.kind ≤ length dst.old }
@@ -110,7 +112,8 @@ impl WireHost {
         let bytes = self.bytes;
         let mut done: usize = 0;
         while done < len {
-            dst[at + done..at + done + 4].copy_from_slice(&bytes[done..done + 4]);
+            let word: u32 = get_or_zero(&bytes, done);
+            word.write_be(&mut dst[at + done..at + done + 4]);
             done += 4;
         }
     }

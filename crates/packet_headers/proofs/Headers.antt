@@ -1,6 +1,6 @@
 -- Headers that the tests let through: each part of them is written, and the parts fill the destination.
 -- Assumes nothing.
-use mathlib.Core.Path.{◌≡◌, refl, sym, ap, ◌∙◌}
+use mathlib.Core.Path.{◌≡◌, refl, sym, ap, ap₂, ◌∙◌}
 use mathlib.Core.Bool.{Bool, true, false, cond, not}
 use mathlib.Core.List.{List, [], ◌++◌}
 use Prim.Native.Nat.{ℕ, ◌+◌, ◌-◌, ◌/◌, ◌≤◌}
@@ -10,13 +10,15 @@ use lib.ListN.{length, take, drop, length-append}
 use lib.Seq.{sets, sets-eq, take-length, length-take-le, length-sets}
 use lib.Dec.{leb, eqb}
 use borrow.Author.Tests.{leb-true, le-leb, eq-eqb, ne_eqb}
-use borrow.Rule.Slice.PartMut.{put_mid}
-use Rattle.std.specs.Prelude.{Ok}
+use Rattle.std.specs.Prelude.{⊤, Result, Ok}
+use Rattle.std.specs.Result.{IsOk}
 use Rattle.wire_encoding.specs.Result.{or_else}
-use Rattle.wire_encoding.specs.BigEndian.{placed}
+use Rattle.wire_encoding.specs.BigEndian.{written, placed}
+use Rattle.wire_encoding.specs.Answers.{put_answer}
+use Rattle.wire_encoding.specs.declared.write.InadequateBufferSize.{InadequateBufferSize}
 use Rattle.wire_encoding.proofs.Result.{held}
 use Rattle.wire_encoding.proofs.Lists.{sets-append, sets-whole}
-use Rattle.wire_encoding.proofs.Writes.{placed_is, lent_run}
+use Rattle.wire_encoding.proofs.Writes.{placed_is, put_done}
 use Rattle.packet_common_header.specs.CommonHeader.{host_length, common_fits, common_bytes, write_common}
 use Rattle.packet_address_header.specs.AddressHeader.{address_length, length_of_kinds, address_bytes}
 use Rattle.packet_common_header.specs.declared.CommonHeader.{CommonHeader}
@@ -137,23 +139,41 @@ module _ (h : ScionHeaders) (path dst : List ℕ) (s : Sixteen h.address)
       sets-append x (y ++ z) dst 0 ∙ sets-append y z (sets dst 0 x) (0 + length x) in
       ap (λ (l : List ℕ). sets l fixed z) (sym (sets_apart x y dst 0 12 (omega arith))) ∙ sym (rw (one, two) at apart) ∙ whole
 
-  -- the address header, the common header in the first twelve bytes, and then the path, whose part is lent from 0 on, to the rest
-  pub three_written : common_fits (common_of h) ≡ true → (h.header_length_factor ≡ 0 → ⊥) → {one back run : List ℕ} → one ≡ placed dst 12 y
-      → back ≡ or_else (write_common (common_of h) (length (take 12 one))) (take 12 one)
-      → run ≡ take (added_length h.path_type (length path) - 0) path → (to : ℕ) → to ≡ fixed
-      → put_mid to (length (back ++ drop 12 one) - to) (back ++ drop 12 one) run ≡ header_bytes h path
-  unfolding headers_length common_of
-  three_written fits some {one} {back} {run} e₁ e₂ e₃ to at =
-      let own : length y ≡ address_length h.address = length-address_bytes h.address s in
-      let first : one ≡ sets dst 12 y = e₁ ∙ placed_is dst 12 y (address_length h.address) own (omega (arith, size)) in
-      let kept : length one ≡ length dst = ap length first ∙ length-sets dst 12 y in
-      let both : List ℕ = sets (sets dst 12 y) 0 x in
-      let second : back ++ drop 12 one ≡ both =
-      common_lent (common_of h) one fits some (omega (arith, size, kept)) e₂ ∙ ap (λ (l : List ℕ). sets l 0 x) first in
-      let long : length both ≡ length dst = length-sets (sets dst 12 y) 0 x ∙ length-sets dst 12 y in
-      let last : run ≡ z = e₃ ∙ rw sub-zero (added_part h.path_type path) in
-      let added : length z ≡ length both - fixed = length-added_bytes h.path_type path ∙ omega (arith, size, long) in
-      rw (second, last, at) (lent_run z both fixed (length both - fixed) added (omega (arith, size, long))) ∙ all_written
+  -- the address header, and the common header in the first twelve bytes
+  module _ (fits : common_fits (common_of h) ≡ true) (some : h.header_length_factor ≡ 0 → ⊥) {one back : List ℕ} (e₁ : one ≡ placed dst 12 y)
+      (e₂ : back ≡ or_else (write_common (common_of h) (length (take 12 one))) (take 12 one)) where
+    two_written : back ++ drop 12 one ≡ sets (sets dst 12 y) 0 x
+    unfolding headers_length common_of
+    two_written =
+        let own : length y ≡ address_length h.address = length-address_bytes h.address s in
+        let first : one ≡ sets dst 12 y = e₁ ∙ placed_is dst 12 y (address_length h.address) own (omega (arith, size)) in
+        let kept : length one ≡ length dst = ap length first ∙ length-sets dst 12 y in
+        common_lent (common_of h) one fits some (omega (arith, size, kept)) e₂ ∙ ap (λ (l : List ℕ). sets l 0 x) first
+
+    long : length (back ++ drop 12 one) ≡ length dst
+    long = ap length two_written ∙ length-sets (sets dst 12 y) 0 x ∙ length-sets dst 12 y
+
+    -- then the path, whose part is lent from 0 on
+    abbrev run : List ℕ
+    run = take (added_length h.path_type (length path) - 0) path
+
+    run_added : run ≡ z
+    run_added = rw sub-zero (added_part h.path_type path)
+
+    room : fixed + length run ≤ length (back ++ drop 12 one)
+    unfolding headers_length
+    room = let added = ap length run_added ∙ length-added_bytes h.path_type path in omega (arith, size, long, added)
+
+    -- there is room for it
+    pub path_put : {put : Result ⊤ InadequateBufferSize} → put ≡ put_answer (written (back ++ drop 12 one) fixed run) → IsOk put
+    path_put e = put_done (back ++ drop 12 one) fixed run room e
+
+    pub three_written : {three : List ℕ} → three ≡ placed (back ++ drop 12 one) fixed run → three ≡ header_bytes h path
+    three_written e =
+        e
+        ∙ placed_is (back ++ drop 12 one) fixed run (length run) refl room
+        ∙ ap₂ (λ (l r : List ℕ). sets l fixed r) two_written run_added
+        ∙ all_written
 
 -- what the writer's goals need
 pub ruleset encodes = (added_few, headers-written, common_first, header_put)

@@ -8,6 +8,7 @@ ghost use Rattle.packet_headers.specs.Headers as spec;
 use errors::packet_error::EncodeError;
 use packet_address_header::AddressHeader;
 use packet_common_header::{CommonHeader, fields_fit};
+use wire_encoding::write::put_slice;
 
 // The headers of a packet but for its path, which stands beside them; its type is the byte of the wire, which may be any. The host kinds are the hosts' own. Factor and payload
 // length may be any number: the encoder tests them.
@@ -130,7 +131,7 @@ impl ScionHeaders {
         };
         wire.put(dst, CommonHeader::LENGTH).unwrap();
         common.encode_to(&mut dst[0..CommonHeader::LENGTH]).unwrap();
-        dst[fixed..].copy_from_slice(&path[0..added]);
+        put_slice(dst, fixed, &path[0..added]).unwrap();
         Ok(())
     }
 }

@@ -42,7 +42,7 @@ module _ (x y : List ℕ) (m n : PathMetaHeader) (r : Readable x m) (s : Readabl
 
   -- so a call that leaves the second keeps its promise
   pub keeps : (call : Result (List ℕ) PathError) → call ≡ Ok y → KeepsExpiry x call
-  keeps call done left h = rw (← same_value (sym done ∙ h), done) (fits y n s, path_expires)
+  keeps call done left h = rw (← same_value (sym done ∙ h)) (fits y n s, path_expires)
     where
       path_expires : (path_of 1 y).expiry ≡ (path_of 1 x).expiry
       path_expires = rw (path_of_lem y n s, path_of_lem x m r) same

@@ -77,18 +77,18 @@ RecordExpires = (bytes : List ℕ) (m : PathMetaHeader) → standard 1 bytes ≡
 abbrev pub contents : Result (List ℕ) PathError → List ℕ → List ℕ
 contents r lent = or_else r lent
 
--- the record of the path that such a call leaves: what reading hands back of those bytes; zeros where it is refused
-abbrev pub path_left : ℕ → Result (List ℕ) PathError → StandardPath
-path_left type r = or_else (mapped (path_of type) r) no_path
+-- the record of the path that such a call leaves, and hands back: what reading hands back of the bytes that it left
+abbrev pub path_left : ℕ → List ℕ → StandardPath
+path_left type left = path_of type left
 
 -- as it is handed back: the record, or the refusal
 unfoldable pub written_answer : ℕ → Result (List ℕ) PathError → Result StandardPath PathError
-written_answer type r = mapped (path_of type) r
+written_answer type r = mapped (path_left type) r
 
 -- what is promised of each call that writes, where a standard path is changed or written: the record fits, and the expiry is still that
 -- of the path that was read
 abbrev pub KeepsExpiry : List ℕ → Result (List ℕ) PathError → Type 0
-KeepsExpiry bytes call = (left : List ℕ) → call ≡ Ok left → Fits left (path_left 1 call) × ((path_left 1 call).expiry ≡ (path_of 1 bytes).expiry)
+KeepsExpiry bytes call = (left : List ℕ) → call ≡ Ok left → Fits left (path_left 1 left) × ((path_left 1 left).expiry ≡ (path_of 1 bytes).expiry)
 
 -- VIEWS: where a field lies; 8 where there is none
 

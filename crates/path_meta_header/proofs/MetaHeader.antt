@@ -12,7 +12,9 @@ use borrow.Author.Tests.{ltb-true, ltb-false, eqb-true, eqb-false, lt-ltb, le-lt
 use Rattle.wire_encoding.proofs.Lists.{by_lt}
 use Rattle.wire_encoding.proofs.Result.{held}
 use Rattle.path_meta_header.specs.declared.PathMetaHeader.{PathMetaHeader}
-use Rattle.std.specs.Prelude.{Ok}
+use Rattle.std.specs.Prelude.{Ok, Err}
+use Rattle.errors.specs.declared.packet_error.DecodeError.TheVariants.{InvalidPath}
+use Rattle.errors.specs.declared.path_error.DataplanePathErrorKind.TheVariants.{InvalidSegmentLengths}
 use Rattle.path_meta_header.specs.MetaHeader.{segment_length, info_fields_count, hop_fields_count, segment_of, first_hop_field, segment_of_link}
 use Rattle.path_meta_header.specs.MetaHeader.{lengths_valid, info_valid, hop_valid, checked, nth_field, meta_of, Link, Links}
 
@@ -317,6 +319,11 @@ pub record Lengths (m : PathMetaHeader) : Type 0 where
 pub lengths_read : (word : ℕ) → Lengths (meta_of word)
 unfolding meta_of nth_field
 lengths_read word = record { first = omega arith; second = omega arith; third = omega arith; these = refl }
+
+-- wrong lengths are refused first, whatever else is wrong
+pub wrong_lengths : (m : PathMetaHeader) → lengths_valid m ≡ false → checked m ≡ Err (InvalidPath InvalidSegmentLengths)
+unfolding checked
+wrong_lengths m e = rw e
 
 -- A SOUND HEADER
 

@@ -25,6 +25,12 @@ pub type SegmentLength = U6;
 // The 6 bits of a meta header that mean nothing yet.
 pub type PathMetaReserved = U6;
 
+// The widths of these names, by the largest number of each.
+const _: () = prove!(InfoFieldIndex::MAX == 3);
+const _: () = prove!(HopFieldIndex::MAX == 63);
+const _: () = prove!(SegmentLength::MAX == 63);
+const _: () = prove!(PathMetaReserved::MAX == 63);
+
 // The pointers, the reserved bits and the three segment lengths. Each may hold any byte: writing one tests their widths.
 #[repr(C)]
 #[derive(Clone, Copy, Debug, PartialEq, Eq, Hash)]

@@ -12,11 +12,12 @@ use lib.Seq.{sets, drop-set-lt, length-sets, get_or-set_same, get_or-set_other}
 use borrow.Author.Tests.{eq-eqb, ne_eqb}
 use Rattle.std.specs.Prelude.{Ok, Err}
 use Rattle.wire_encoding.proofs.Result.{held, stepped, same_value}
+use borrow.Rule.Slice.PartMut.{put_mid}
 use Rattle.wire_encoding.specs.Result.{or_else}
-use Rattle.wire_encoding.specs.BigEndian.{big_endian, bytes_of, number_at}
+use Rattle.wire_encoding.specs.BigEndian.{big_endian, bytes_of, number_at, part, placed}
 use Rattle.wire_encoding.proofs.Lists.{Bytes, sets_same}
 use Rattle.wire_encoding.proofs.BigEndian.{length_bytes_of, bytes_read, or_zero_is}
-use Rattle.wire_encoding.proofs.Writes.{lent_run}
+use Rattle.wire_encoding.proofs.Writes.{lent_written}
 use Rattle.path_fields.specs.Fields.{info_field_at}
 use Rattle.path_meta_header.specs.MetaHeader as meta
 use Rattle.path_meta_header.specs.declared.PathMetaHeader.{PathMetaHeader}
@@ -188,16 +189,15 @@ module _ (bytes : List ℕ) (m : PathMetaHeader) where
 -- the two bytes of the accumulator, lent and written
 pub applied_lent : (bytes : List ℕ) (k : ℕ) (move : Moved) → meta.info_start k + 4 ≤ length bytes
     → {n : ℕ} → n ≡ or_else (number_at 2 bytes (meta.info_start k + 2)) 0
-    → {now : List ℕ} → now ≡ bytes_of 2 (bit_xor n move.change)
-    → take (meta.info_start k + 2) (set bytes 0 (pointers move.position))
-    ++ (now ++ drop 2 (drop (meta.info_start k + 2) (set bytes 0 (pointers move.position))))
-    ≡ spec.applied bytes k move
+    → (size : ℕ) → size ≡ 2 → {now : List ℕ}
+    → now ≡ placed (part (meta.info_start k + 2) size (set bytes 0 (pointers move.position))) 0 (bytes_of 2 (bit_xor n move.change))
+    → put_mid (meta.info_start k + 2) size (set bytes 0 (pointers move.position)) now ≡ spec.applied bytes k move
 unfolding spec.applied
-applied_lent bytes k move room {n} read e =
+applied_lent bytes k move room {n} read size two e =
     let number = bit_xor n move.change in
     let pointed = set bytes 0 (pointers move.position) in
-    rw (e, ← or_zero_is 2 bytes (meta.info_start k + 2) (omega arith), ← read)
-    (lent_run (bytes_of 2 number) pointed (meta.info_start k + 2) 2 (length_bytes_of 2 number) (simp length-set (omega arith)))
+    rw (← or_zero_is 2 bytes (meta.info_start k + 2) (omega arith), ← read)
+    (lent_written (bytes_of 2 number) pointed (meta.info_start k + 2) size (length_bytes_of 2 number ∙ sym two) (simp length-set (omega arith)) e)
 
 -- A PATH THAT CAN BE MOVED
 

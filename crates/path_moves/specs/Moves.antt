@@ -11,7 +11,7 @@ use Rattle.path_meta_header.specs.declared.PathMetaHeader.{PathMetaHeader}
 use Rattle.errors.specs.declared.path_error.PathError.{PathError}
 use Rattle.errors.specs.declared.path_error.PathError.TheVariants.{AtLastHopField}
 use Rattle.path.specs.Standard.{info_at}
-use Rattle.path.specs.Dataplane.{meta_header_of, path_of, KeepsExpiry}
+use Rattle.path.specs.Dataplane.{meta_header_of, path_left, KeepsExpiry}
 use Rattle.path_moves.specs.Rules.{owner_of, spared, movable}
 use Rattle.path_moves.specs.declared.Position.{Position}
 use Rattle.path_moves.specs.declared.Moved.{Moved}
@@ -88,7 +88,7 @@ walk_count type bytes limit = or_else (mapped (λ (w : Way). w.moves) (walk type
 
 -- what is handed back of it, beside the record of the path that it leaves
 unfoldable pub walk_answer : ℕ → Result Way PathError → Result WalkAnswer PathError
-walk_answer type r = mapped (λ (w : Way). record { path = path_of type w.bytes; moves = w.moves; arrived = w.arrived }) r
+walk_answer type r = mapped (λ (w : Way). record { path = path_left type w.bytes; moves = w.moves; arrived = w.arrived }) r
 
 -- WHAT HOP FIELD i MEETS BY THE PATH ALONE
 

@@ -1,13 +1,18 @@
 -- What a copy and a reversal hand back and leave, by what reading finds and by the size of the destination.
 -- Assumes nothing.
 use Prim.Native.Nat.{ℕ, ◌≤◌, ◌<◌}
-use mathlib.Core.Path.{◌≡◌, refl, sym, ◌∙◌}
+use mathlib.Core.Path.{◌≡◌, refl, ap, ◌∙◌}
 use mathlib.Core.Bool.{true}
 use mathlib.Core.List.{List, ◌++◌}
 use native.Mathlib.Nat.{le_refl}
+use native.Mathlib.Omega.{arith}
 use lib.ListN.{length, take, drop}
-use lib.Seq.{length-take-le}
-use Rattle.std.specs.Prelude.{Ok, Err}
+use Rattle.std.specs.Prelude.{⊤, Result, Ok, Err}
+use Rattle.std.specs.Result.{IsOk}
+use Rattle.wire_encoding.specs.declared.write.InadequateBufferSize.{InadequateBufferSize as NoRoom}
+use Rattle.wire_encoding.specs.Answers.{put_answer}
+use Rattle.wire_encoding.specs.BigEndian.{written}
+use Rattle.wire_encoding.proofs.Writes.{done, front-written, put_done}
 use Rattle.errors.specs.declared.path_error.PathError.TheVariants.{InadequateBufferSize}
 use Rattle.path_meta_header.specs.MetaHeader.{path_length}
 use Rattle.path_meta_header.specs.Reversal.{reversed_meta}
@@ -34,13 +39,20 @@ module _ (type : ℕ) (bytes dst : List ℕ) {read : Extent} (h : read_dataplane
   unfolding copy
   copy_enough room = rw (h, into_enough (take read.length bytes) dst (length_front bytes type h) room)
 
-  pub copy_parts : read.length ≤ length dst → length (take read.length dst) ≡ length (take read.length bytes)
-  copy_parts room = length-take-le read.length dst room ∙ sym (length_front bytes type h)
+  -- there is room for the bytes, and they stand in front
+  pub copy_put : read.length ≤ length dst → {put : Result ⊤ NoRoom} → put ≡ put_answer (written dst 0 (take read.length bytes)) → IsOk put
+  copy_put room e = put_done dst 0 (take read.length bytes) (omega (arith, length_front bytes type h)) e
 
   pub copy_answer : read.length ≤ length dst → Ok read ≡ written_path type (copy type bytes dst)
   unfolding written_path
   copy_answer room =
       rw (copy_enough room, front_run (take read.length bytes) dst (length_front bytes type h), path_copied type bytes h, path_given type bytes h) refl
+
+  pub copy_written : read.length ≤ length dst → written dst 0 (take read.length bytes) ≡ Ok (take read.length bytes ++ drop read.length dst)
+  copy_written room =
+      let run : List ℕ = take read.length bytes in
+      let long = length_front bytes type h in
+      done dst 0 run read.length long (omega arith) ∙ ap Ok (front-written run dst read.length long room)
 
   pub copy_left : read.length ≤ length dst → take read.length bytes ++ drop read.length dst ≡ contents_after (copy type bytes dst) dst
   copy_left room = rw (copy_enough room) refl
@@ -76,6 +88,6 @@ module _ (bytes dst : List ℕ) {path : StandardPath} (h : read_record bytes ≡
   turn_left room = rw (reverse_enough bytes dst known room) refl
 
 -- what the two functions cite
-pub ruleset copies = (copy_fewer, copy_parts, copy_answer, copy_left, length_inside, length_front)
+pub ruleset copies = (copy_fewer, copy_put, copy_written, copy_answer, copy_left, length_inside, length_front)
 
 pub ruleset turns = (turn_fits, turn_whole, turn_fewer, turn_answer, turn_left, reverse_copies, reverse_refused)

@@ -14,11 +14,11 @@ use lib.Seq.{sets, drop-drop, length-sets, length-take-le, take_all}
 use borrow.Rule.Slice.PartMut.{put_mid}
 use borrow.Author.Tests.{lt-ltb, ne_eqb}
 use Rattle.wire_encoding.specs.Result.{or_else}
-use Rattle.wire_encoding.specs.BigEndian.{big_endian, bytes_of, part, records}
+use Rattle.wire_encoding.specs.BigEndian.{big_endian, number_at, bytes_of, placed, part, records}
 use Rattle.wire_encoding.proofs.Bits.{flip_bit}
 use Rattle.wire_encoding.proofs.Lists.{Bytes, bytes_part, bytes_drop, length_part, sets-whole, written_after}
-use Rattle.wire_encoding.proofs.BigEndian.{length_bytes_of, bytes_read}
-use Rattle.wire_encoding.proofs.Writes.{front-written, lent_run}
+use Rattle.wire_encoding.proofs.BigEndian.{or_zero_is, length_bytes_of, bytes_read}
+use Rattle.wire_encoding.proofs.Writes.{front-written, lent_run, lent_written}
 use Rattle.path_meta_header.specs.MetaHeader.{nth_field, meta_of, info_fields_count, hop_fields_count, path_length}
 use Rattle.path_meta_header.specs.Reversal.{at_start, reversed_meta}
 use Rattle.path_meta_header.proofs.Reversal.{row_of, row_is}
@@ -58,25 +58,27 @@ flipped_written (flags ∷ rest) h = ap (λ (b : ℕ). b ∷ rest) (flip_bit 0 f
 
 -- a hop field: eight bytes written as the number that they spell, then the four after them
 pub hop_field_copied : (src dst : List ℕ) → Bytes src → length src ≡ 12 → length dst ≡ 12 → {v w : ℕ} {a b : List ℕ}
-    → v ≡ big_endian 8 (take 8 src) 0 → w ≡ big_endian 4 (part 8 (length src - 8) src) 0 → a ≡ bytes_of 8 v → b ≡ bytes_of 4 w
+    → v ≡ or_else (number_at 8 (take 8 src) 0) 0 → w ≡ or_else (number_at 4 (part 8 (length src - 8) src) 0) 0
+    → a ≡ placed (take 8 dst) 0 (bytes_of 8 v)
+    → b ≡ placed (part 8 (length (a ++ drop 8 dst) - 8) (a ++ drop 8 dst)) 0 (bytes_of 4 w)
     → put_mid 8 (length (a ++ drop 8 dst) - 8) (a ++ drop 8 dst) b ≡ same src
 unfolding same
 hop_field_copied src dst bytes h g {v} {w} {a} {b} e f en fn =
-    let eight : length a ≡ 8 = ap length en ∙ length_bytes_of 8 v in
-    let four : length b ≡ 4 = ap length fn ∙ length_bytes_of 4 w in
-    let front : a ++ drop 8 dst ≡ sets dst 0 a = sym (front-written a dst 8 eight (omega arith)) in
-    let size : length (a ++ drop 8 dst) ≡ 12 = ap length front ∙ length-sets dst 0 a ∙ g in
     let few : 8 ≤ length (take 8 src) = simp length-take (omega (arith, h)) in
     let rest : length (drop 8 src) ≡ 4 = simp length-drop (omega (arith, h)) in
-    let first : a ≡ take 8 src =
-    en ∙ ap (bytes_of 8) e ∙ bytes_read 8 (take 8 src) (bytes_part 0 8 src bytes) 0 few ∙ take_all 8 (take 8 src) (simp length-take (omega arith)) in
     let all : part 8 (length src - 8) src ≡ drop 8 src = take_all (length src - 8) (drop 8 src) (omega arith) in
-    let last : b ≡ drop 8 src =
-    fn ∙ ap (bytes_of 4) (f ∙ ap (λ (l : List ℕ). big_endian 4 l 0) all)
+    let first : bytes_of 8 v ≡ take 8 src =
+    ap (bytes_of 8) (e ∙ or_zero_is 8 (take 8 src) 0 few)
+    ∙ bytes_read 8 (take 8 src) (bytes_part 0 8 src bytes) 0 few ∙ take_all 8 (take 8 src) (simp length-take (omega arith)) in
+    let last : bytes_of 4 w ≡ drop 8 src =
+    ap (bytes_of 4) (f ∙ ap (λ (l : List ℕ). or_else (number_at 4 l 0) 0) all ∙ or_zero_is 4 (drop 8 src) 0 (omega arith))
     ∙ bytes_read 4 (drop 8 src) (bytes_drop 8 src bytes) 0 (omega arith) ∙ take_all 4 (drop 8 src) (omega arith) in
-    lent_run b (a ++ drop 8 dst) 8 (length (a ++ drop 8 dst) - 8) (omega arith) (omega arith)
-    ∙ ap (λ (l : List ℕ). sets l 8 b) front
-    ∙ written_after a b dst 0 8 eight
+    let front : a ++ drop 8 dst ≡ sets dst 0 (bytes_of 8 v) =
+    lent_written (bytes_of 8 v) dst 0 8 (length_bytes_of 8 v) (omega arith) en in
+    let size : length (a ++ drop 8 dst) ≡ 12 = ap length front ∙ length-sets dst 0 (bytes_of 8 v) ∙ g in
+    lent_written (bytes_of 4 w) (a ++ drop 8 dst) 8 (length (a ++ drop 8 dst) - 8) (length_bytes_of 4 w ∙ omega arith) (omega arith) fn
+    ∙ ap (λ (l : List ℕ). sets l 8 (bytes_of 4 w)) front
+    ∙ written_after (bytes_of 8 v) (bytes_of 4 w) dst 0 8 (length_bytes_of 8 v)
     ∙ ap (sets dst 0) (ap₂ (λ (x y : List ℕ). x ++ y) first last ∙ take-append-drop 8 src)
     ∙ sets-whole src dst (h ∙ sym g)
 

@@ -5,7 +5,7 @@ use Rattle.wire_encoding.specs.Result.{require, ◌>>◌, ◌>>=◌, mapped, ref
 use Rattle.errors.specs.declared.path_error.PathError.{PathError}
 use Rattle.errors.specs.declared.path_error.PathError.TheVariants.{Decode, InadequateBufferSize}
 use Rattle.path.specs.declared.dataplane.Extent.{Extent}
-use Rattle.path.specs.Dataplane.{read_dataplane, contents, path_of, KeepsExpiry}
+use Rattle.path.specs.Dataplane.{read_dataplane, contents, path_left, KeepsExpiry}
 
 -- a path that was written: how many bytes it has, and what the destination then holds
 pub record Written : Type 0 where
@@ -33,7 +33,7 @@ contents_after r dst = contents (mapped (λ (written : Written). written.left) r
 
 -- what is handed out: the record of the front, and its length
 unfoldable pub written_path : ℕ → Result Written PathError → Result Extent PathError
-written_path type r = mapped (λ (written : Written). record { path = path_of type (front written); length = written.length }) r
+written_path type r = mapped (λ (written : Written). record { path = path_left type (front written); length = written.length }) r
 
 -- a theorem: the record of a copy fits it, and has the expiry of the path that was read
 abbrev pub CopyKeepsExpiry : Type 0

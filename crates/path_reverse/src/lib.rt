@@ -13,6 +13,7 @@ use path::standard::StandardPath;
 use path_fields::{HopField, InfoField};
 use path_meta_header::PathMetaHeader;
 use wire_encoding::number::Number;
+use wire_encoding::write::put_slice;
 
 // Copies the path to the front of a destination of at least its length; the bytes behind it stay as they are. Answers with the
 // record of the path as written, and how many bytes it has.
@@ -27,7 +28,7 @@ pub fn copy_to_slice(path: DataplanePath, bytes: &[u8], dst: &mut [u8]) -> Resul
     if dst.len() < read.length {
         return Err(PathError::InadequateBufferSize);
     }
-    dst[..read.length].copy_from_slice(&bytes[..read.length]);
+    put_slice(dst, 0, &bytes[..read.length]).unwrap();
     Ok(read)
 }
 

@@ -1,5 +1,5 @@
 -- What the calls on paths hand to C: each answer of the library, field by field; zeros where a call is refused.
-use Rattle.std.specs.Prelude.{ℕ, ℤ, pos, false, List, None, Result}
+use Rattle.std.specs.Prelude.{ℕ, ℤ, pos, ◌≡◌, false, List, None, Result, Err}
 use Rattle.std.specs.Option.{unwrap_or}
 use Rattle.wire_encoding.specs.Result.{or_else}
 use Rattle.errors.specs.declared.packet_error.DecodeError.{DecodeError}
@@ -7,7 +7,7 @@ use Rattle.errors.specs.declared.path_error.PathError.{PathError}
 use Rattle.path_fields.specs.Fields.{Interface, new_info_field, zero_info_field, new_hop_field, zero_hop_field}
 use Rattle.path.specs.Standard.{no_path}
 use Rattle.path.specs.Segment.{nowhere, no_segment}
-use Rattle.path.specs.Dataplane.{unread, part_in}
+use Rattle.path.specs.Dataplane.{unread, read_dataplane, part_in}
 use Rattle.path.specs.declared.standard.Part.{Part}
 use Rattle.path.specs.declared.standard.Found.{Found}
 use Rattle.path.specs.declared.standard.StandardPath.{StandardPath}
@@ -37,6 +37,13 @@ unfoldable pub path_read_out : Result Extent DecodeError → ScionPathRead
 path_read_out read =
     let extent = or_else read (unread 0) in
     record { answer = decoded_out read; path = extent.path; length = extent.length }
+
+-- a theorem: of a path that is refused, and of one whose type is not 1, reading hands out a record of zeros
+abbrev pub NoRecordHandedOut : Type 0
+NoRecordHandedOut =
+    (type : ℕ) (bytes : List ℕ)
+    → let out = (path_read_out (read_dataplane type bytes)).path in
+    ((error : DecodeError) → read_dataplane type bytes ≡ Err error → out ≡ no_path) × ((type ≡ 1 → ⊥) → out ≡ no_path)
 
 -- copies and reversals: also how many bytes of the destination are the path's
 unfoldable pub written_path_out : Result Extent PathError → ScionWrittenPath

@@ -49,6 +49,10 @@ module _ (width : ℕ) (bytes : List ℕ) (at : ℕ) where
   pub or_zero_is : at + width ≤ length bytes → or_else (number_at width bytes at) 0 ≡ big_endian width bytes at
   or_zero_is h = sym (ap (λ (r : Result ℕ ℕ). or_else r 0) (found h refl))
 
+  -- and where they are not, 0
+  pub or_zero_short : length bytes < at + width → or_else (number_at width bytes at) 0 ≡ 0
+  or_zero_short h = sym (ap (λ (r : Result ℕ ℕ). or_else r 0) (truncated h))
+
 pub length_bytes_of : (width n : ℕ) → length (bytes_of width n) ≡ width
 unfolding bytes_of
 length_bytes_of zero n = refl
@@ -172,5 +176,8 @@ high_first (suc width) n = first width n ∙ ap (λ (r : List ℕ). byte_at widt
     first zero n = refl
     first (suc width) n = ap (λ (r : List ℕ). r ++ (n % 256 ∷ [])) (first width (n / 256)) ∙ ap (λ (b : ℕ). b ∷ bytes_of (suc width) n) (above width n)
 
+-- the number that begins the bytes, or 0
+pub ruleset whole = (or_zero_is, or_zero_short)
+
 -- what a reader's goals need: its two answers, and the number of a part
-pub ruleset reads = (found, truncated, read_part)
+pub ruleset reads = (found, truncated, read_part, or_zero_is)

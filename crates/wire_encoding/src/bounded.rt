@@ -54,3 +54,12 @@ impl Bounded<u8, 6> {
 impl Bounded<u32, 20> {
     pub const MAX: u32 = 0xF_FFFF;
 }
+
+// The largest number of each width is the one with all its bits set.
+const _: () = prove!(U2::MAX == (1 << 2) - 1);
+
+const _: () = prove!(U4::MAX == (1 << 4) - 1);
+
+const _: () = prove!(U6::MAX == (1 << 6) - 1);
+
+const _: () = prove!(U20::MAX == (1 << 20) - 1);

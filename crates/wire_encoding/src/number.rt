@@ -1,6 +1,9 @@
 // Unsigned numbers on the wire: their bytes, the highest first.
-ghost use Rattle.std.specs.Prelude.{◌≡◌, ℕ, length};
-ghost use Rattle.wire_encoding.specs.BigEndian.{big_endian, bytes_of};
+ghost use Rattle.std.specs.Prelude.{◌≡◌, ℕ};
+ghost use Rattle.wire_encoding.specs.BigEndian.{number_at, bytes_of, placed};
+ghost use Rattle.wire_encoding.specs.Result.{or_else};
+
+use crate::read::has_room;
 
 // A number of `WIDTH` bytes.
 pub trait Number: Copy {
@@ -10,15 +13,13 @@ pub trait Number: Copy {
 
     const WIDTH: usize;
 
-    // The number that exactly `WIDTH` bytes spell.
+    // The number that begins the bytes, or 0 where there are too few.
     fn from_be(bytes: &[u8]) -> Self
-        requires { length bytes.now ≡ WIDTH }
-        ensures { value result ≡ big_endian WIDTH bytes.now 0 };
+        ensures { value result ≡ or_else (number_at WIDTH bytes.now 0) 0 };
 
-    // Writes the number to exactly `WIDTH` bytes.
+    // Writes the number to the front of the destination, or nothing where it has too few bytes.
     fn write_be(self, dst: &mut [u8])
-        requires { length dst.old ≡ WIDTH }
-        ensures { dst.new ≡ bytes_of WIDTH (value self) };
+        ensures { dst.new ≡ placed dst.old 0 (bytes_of WIDTH (value self)) };
 
     fn to_u64(self) -> u64
         ensures { result ≡ value self };
@@ -34,14 +35,19 @@ impl Number for u8 {
 
     const WIDTH: usize = 1;
 
-    #[tactic(auto, unfolding(crate::specs::BigEndian::big_endian))]
+    #[tactic(auto, using(crate::proofs::BigEndian::whole), unfolding(crate::specs::BigEndian::big_endian))]
     fn from_be(bytes: &[u8]) -> u8 {
-        bytes[0]
+        if has_room(bytes.len(), 0, 1) {
+            return bytes[0];
+        }
+        0
     }
 
-    #[tactic(auto, unfolding(crate::specs::BigEndian::bytes_of))]
+    #[tactic(auto, using(crate::proofs::Writes::front_byte, crate::proofs::Writes::front_refused))]
     fn write_be(self, dst: &mut [u8]) {
-        dst[0] = self;
+        if has_room(dst.len(), 0, 1) {
+            dst[0] = self;
+        }
     }
 
     fn to_u64(self) -> u64 {
@@ -60,14 +66,19 @@ impl Number for u16 {
 
     const WIDTH: usize = 2;
 
-    #[tactic(auto, unfolding(crate::specs::BigEndian::big_endian))]
+    #[tactic(auto, using(crate::proofs::BigEndian::whole), unfolding(crate::specs::BigEndian::big_endian))]
     fn from_be(bytes: &[u8]) -> u16 {
-        u16::from_be_bytes([bytes[0], bytes[1]])
+        if has_room(bytes.len(), 0, 2) {
+            return u16::from_be_bytes([bytes[0], bytes[1]]);
+        }
+        0
     }
 
-    #[tactic(auto, using(crate::proofs::BigEndian::high_first))]
+    #[tactic(auto, using(crate::proofs::Writes::fronts))]
     fn write_be(self, dst: &mut [u8]) {
-        dst.copy_from_slice(&u16::to_be_bytes(self));
+        if has_room(dst.len(), 0, 2) {
+            dst[..2].copy_from_slice(&u16::to_be_bytes(self));
+        }
     }
 
     fn to_u64(self) -> u64 {
@@ -86,14 +97,22 @@ impl Number for u32 {
 
     const WIDTH: usize = 4;
 
-    #[tactic(auto, unfolding(crate::specs::BigEndian::big_endian))]
+    // Byte by byte, so that the compiler sees of which bytes each field of a header's word is made.
+    #[tactic(auto, using(crate::proofs::BigEndian::whole), unfolding(crate::specs::BigEndian::big_endian))]
     fn from_be(bytes: &[u8]) -> u32 {
-        u32::from_be_bytes([bytes[0], bytes[1], bytes[2], bytes[3]])
+        if has_room(bytes.len(), 0, 4) {
+            let high = u32::from(bytes[0]) * 256 + u32::from(bytes[1]);
+            let low = u32::from(bytes[2]) * 256 + u32::from(bytes[3]);
+            return high * 0x1_0000 + low;
+        }
+        0
     }
 
-    #[tactic(auto, using(crate::proofs::BigEndian::high_first))]
+    #[tactic(auto, using(crate::proofs::Writes::fronts))]
     fn write_be(self, dst: &mut [u8]) {
-        dst.copy_from_slice(&u32::to_be_bytes(self));
+        if has_room(dst.len(), 0, 4) {
+            dst[..4].copy_from_slice(&u32::to_be_bytes(self));
+        }
     }
 
     fn to_u64(self) -> u64 {
@@ -112,16 +131,21 @@ impl Number for u64 {
 
     const WIDTH: usize = 8;
 
-    #[tactic(auto, unfolding(crate::specs::BigEndian::big_endian))]
+    #[tactic(auto, using(crate::proofs::BigEndian::whole), unfolding(crate::specs::BigEndian::big_endian))]
     fn from_be(bytes: &[u8]) -> u64 {
-        u64::from_be_bytes([
-            bytes[0], bytes[1], bytes[2], bytes[3], bytes[4], bytes[5], bytes[6], bytes[7],
-        ])
+        if has_room(bytes.len(), 0, 8) {
+            return u64::from_be_bytes([
+                bytes[0], bytes[1], bytes[2], bytes[3], bytes[4], bytes[5], bytes[6], bytes[7],
+            ]);
+        }
+        0
     }
 
-    #[tactic(auto, using(crate::proofs::BigEndian::high_first))]
+    #[tactic(auto, using(crate::proofs::Writes::fronts))]
     fn write_be(self, dst: &mut [u8]) {
-        dst.copy_from_slice(&u64::to_be_bytes(self));
+        if has_room(dst.len(), 0, 8) {
+            dst[..8].copy_from_slice(&u64::to_be_bytes(self));
+        }
     }
 
     fn to_u64(self) -> u64 {

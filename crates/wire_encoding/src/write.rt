@@ -1,5 +1,6 @@
 // Big-endian numbers, and runs of bytes, written at an offset of a lent slice.
-ghost use Rattle.std.specs.Prelude.{◌≡◌};
+ghost use Rattle.std.specs.Prelude.{◌≡◌, ◌+◌, ◌≤◌, length};
+ghost use Rattle.std.proofs.lemmas.List.Edits.{sets};
 ghost use Rattle.wire_encoding.specs.BigEndian.{bytes_of, written, placed};
 ghost use Rattle.wire_encoding.specs.Answers.{put_answer};
 
@@ -23,6 +24,17 @@ pub fn put<T: Number>(dst: &mut [u8], at: usize, number: T) -> Result<(), Inadeq
     Ok(())
 }
 
+// Copies all of `src` to `dst` from `at` on, byte by byte: the library's copy of any length needs a function of the C library.
+#[tactic(auto, using(crate::proofs::Writes::runs))]
+fn write_bytes(src: &[u8], dst: &mut [u8], at: usize)
+    requires { at + length src.now ≤ length dst.old }
+    ensures { dst.new ≡ sets dst.old at src.now }
+{
+    for i in 0..src.len() {
+        dst[at + i] = src[i];
+    }
+}
+
 // Writes the bytes of `src` at `at`, all of them or none.
 #[tactic(auto, using(crate::proofs::Writes::writes))]
 pub fn put_slice(dst: &mut [u8], at: usize, src: &[u8]) -> Result<(), InadequateBufferSize>
@@ -32,6 +44,6 @@ pub fn put_slice(dst: &mut [u8], at: usize, src: &[u8]) -> Result<(), Inadequate
     if !has_room(dst.len(), at, src.len()) {
         return Err(InadequateBufferSize);
     }
-    dst[at..at + src.len()].copy_from_slice(src);
+    write_bytes(src, dst, at);
     Ok(())
 }
