@@ -3,7 +3,8 @@
 use mathlib.Core.Path.{◌≡◌, refl, sym, ap, ap₂, ◌∙◌}
 use mathlib.Core.Bool.{Bool, true, false, cond}
 use mathlib.Core.List.{List, [], ◌∷◌, ◌++◌}
-use Prim.Native.Nat.{ℕ, suc, ◌+◌, ◌%◌, ◌≤◌, ◌<◌}
+use Prim.Native.Nat.{ℕ, suc, ◌+◌, ◌*◌, ◌%◌, ◌≤◌, ◌<◌}
+use native.Mathlib.Nat.{add-zero}
 use native.Mathlib.Omega.{arith}
 use lib.ListN.{length, take, drop, set, replicate, length-take, length-append}
 use lib.Seq.{sets, length-sets, length-take-le, take-add}
@@ -46,10 +47,20 @@ unfolding padded
 padded_copied bytes at n k few there e =
     rw e (lent_run (part at n bytes) (replicate 16 0) 0 n (length_part at n bytes there) (omega arith))
 
--- a service's two numbers, one after the other
-pub service_copied : (number padding : ℕ) → put_mid 2 2 (put_mid 0 2 (replicate 16 0) (bytes_high_first 2 number)) (bytes_high_first 2 padding) ≡ service_bytes number padding
-unfolding service_bytes
-service_copied number padding = rw (high_first 2 number, high_first 2 padding) refl
+-- two numbers of two bytes, as one of four, are written one after the other
+word_bytes : (high low : ℕ) → low < 65536 → bytes_of 4 (high * 65536 + low) ≡ bytes_of 2 high ++ bytes_of 2 low
+unfolding bytes_of
+word_bytes high low few =
+    ap₂ (λ (a : ℕ) (r : List ℕ). a ∷ r) (omega arith)
+    (ap₂ (λ (a : ℕ) (r : List ℕ). a ∷ r) (omega arith)
+    (ap₂ (λ (a : ℕ) (r : List ℕ). a ∷ r) (omega arith) (ap (λ (a : ℕ). a ∷ []) (omega arith))))
+
+-- so are a service's
+pub service_copied : (number padding : ℕ) → padding < 65536
+    → put_mid 0 4 (replicate 16 0) (bytes_high_first 4 (number * 65536 + padding)) ≡ service_bytes number padding
+unfolding service_bytes bytes_of
+service_copied number padding few =
+    ap (put_mid 0 4 (replicate 16 0)) (sym (high_first 4 (number * 65536 + padding)) ∙ word_bytes number padding few)
 
 -- a host that was read is of the kind that it was read by
 pub kind_of_kind : (kind : ℕ) → kind_of (host_of_kind kind) ≡ kind
@@ -225,44 +236,27 @@ pub ruleset encodes = (header_placed, header_put, length_on_wire)
 written_next : (xs ys dst : List ℕ) (at n next : ℕ) → length xs ≡ n → at + n ≡ next → sets (sets dst at xs) next ys ≡ sets dst at (xs ++ ys)
 written_next xs ys dst at n next size e = ap (λ (m : ℕ). sets (sets dst at xs) m ys) (sym e) ∙ written_after xs ys dst at n size
 
--- whole words of a run, of which those before `done` are written
-pub record Written (bytes dst₀ : List ℕ) (at len : ℕ) (dst : List ℕ) (done : ℕ) : Type 0 where
-  pub so_far : dst ≡ sets dst₀ at (take done bytes)
-  pub words : len % 4 ≡ 0
-  pub at_word : done % 4 ≡ 0
-  pub passed : done ≤ len
+-- a word goes over as a number, and the bytes of a number that was read are the bytes that were read
+pub word_put : (bytes dst : List ℕ) (at done : ℕ) → Bytes bytes → done + 4 ≤ length bytes → at + done + 4 ≤ length dst
+    → {n : ℕ} → n ≡ or_else (number_at 4 bytes done) 0
+    → (k : ℕ) → k ≡ 4 → {now : List ℕ} → now ≡ placed (part (at + done) k dst) 0 (bytes_of 4 n)
+    → put_mid (at + done) k dst now ≡ sets dst (at + done) (part done 4 bytes)
+word_put bytes dst at done b there room {n} read k four e =
+    let word : bytes_of 4 n ≡ part done 4 bytes =
+    ap (bytes_of 4) (read ∙ or_zero_is 4 bytes done there) ∙ bytes_read 4 bytes b done there in
+    lent_written (bytes_of 4 n) dst (at + done) k (length_bytes_of 4 n ∙ sym four) (omega arith) e ∙ ap (sets dst (at + done)) word
 
-pub host_words : (kind : ℕ) → host_length kind % 4 ≡ 0
-unfolding host_length
-host_words kind = omega arith
+-- of a run, the first word, and the next one after the words that are there
+pub first_word : (bytes dst : List ℕ) (at : ℕ) → sets dst (at + 0) (part 0 4 bytes) ≡ sets dst at (take 4 bytes)
+first_word bytes dst at = ap (λ (to : ℕ). sets dst to (take 4 bytes)) (add-zero at)
 
-module _ {bytes dst₀ : List ℕ} {at len : ℕ} {dst : List ℕ} {done : ℕ} (w : Written bytes dst₀ at len dst done) where
-  pub length-written : length dst ≡ length dst₀
-  length-written = ap length w.so_far ∙ length-sets dst₀ at (take done bytes)
+pub next_word : (bytes dst : List ℕ) (at done : ℕ) → done + 4 ≤ length bytes
+    → sets (sets dst at (take done bytes)) (at + done) (part done 4 bytes) ≡ sets dst at (take (done + 4) bytes)
+next_word bytes dst at done there =
+    written_next (take done bytes) (part done 4 bytes) dst at done (at + done) (length-take-le done bytes (omega arith)) refl
+    ∙ ap (sets dst at) (sym (take-add done 4 bytes))
 
-  -- where there is more, there is room for a whole word
-  pub word_room : done < len → at + len ≤ length dst₀ → at + done + 4 ≤ length dst
-  word_room more room = omega (arith, length-written)
-
-  -- the next word goes over as a number, and the bytes of a number that was read are the bytes that were read
-  pub word_written : Bytes bytes → done < len → len ≤ length bytes → at + len ≤ length dst₀ → {n : ℕ} → n ≡ or_else (number_at 4 bytes done) 0
-      → (k : ℕ) → k ≡ 4 → {now : List ℕ} → now ≡ placed (part (at + done) k dst) 0 (bytes_of 4 n)
-      → Written bytes dst₀ at len (take (at + done) dst ++ (now ++ drop k (drop (at + done) dst))) (done + 4)
-  word_written b more few room {n} read k four e =
-      let inside : at + done + 4 ≤ length dst = word_room more room in
-      let there : done + 4 ≤ length bytes = omega arith in
-      let word : bytes_of 4 n ≡ part done 4 bytes =
-      ap (bytes_of 4) (read ∙ or_zero_is 4 bytes done there) ∙ bytes_read 4 bytes b done there in
-      record {
-        so_far =
-            lent_written (bytes_of 4 n) dst (at + done) k (length_bytes_of 4 n ∙ sym four) (omega arith) e
-            ∙ ap₂ (λ (l run : List ℕ). sets l (at + done) run) w.so_far word
-            ∙ written_next (take done bytes) (part done 4 bytes) dst₀ at done (at + done) (length-take-le done bytes (omega arith)) refl
-            ∙ ap (sets dst₀ at) (sym (take-add done 4 bytes));
-        words = w.words;
-        at_word = omega arith;
-        passed = omega arith;
-      }
+pub ruleset next_words = (first_word, next_word, length-sets)
 
 -- two runs apart from each other may be written in either order
 pub sets_apart : (xs ys l : List ℕ) (at to : ℕ) → at + length xs ≤ to → sets (sets l at xs) to ys ≡ sets (sets l to ys) at xs

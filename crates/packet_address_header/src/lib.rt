@@ -5,7 +5,7 @@
 ghost use Rattle.std.specs.Prelude.{◌≡◌, ◌+◌, ◌/◌, ◌%◌, ◌≤◌, length};
 ghost use Rattle.std.proofs.lemmas.List.Edits.{sets};
 ghost use Rattle.wire_encoding.specs.Answers.{put_answer};
-ghost use Rattle.wire_encoding.specs.BigEndian.{placed, written};
+ghost use Rattle.wire_encoding.specs.BigEndian.{part, placed, written};
 ghost use Rattle.wire_encoding.specs.Result.{done, or_else};
 ghost use Rattle.packet_common_header.specs.CommonHeader.{host_length};
 ghost use Rattle.packet_address_header.specs.AddressHeader as spec;
@@ -82,15 +82,26 @@ fn raw_host_address(bytes: &[u8], at: usize, len: usize) -> [u8; 16]
     host
 }
 
-// A service's number and its padding, then zeros.
+// A service's number and its padding, then zeros. The two go over as one word, of which the compiler loads and stores whole hosts.
 #[tactic(auto, using(crate::proofs::AddressHeaderLaws::service_copied))]
 fn service_bytes(number: u16, padding: u16) -> [u8; 16]
     ensures { result ≡ spec.service_bytes number padding }
 {
     let mut raw = [0; 16];
-    raw[0..2].copy_from_slice(&number.to_be_bytes());
-    raw[2..4].copy_from_slice(&padding.to_be_bytes());
+    let word = u32::from(number) * 0x1_0000 + u32::from(padding);
+    raw[..4].copy_from_slice(&word.to_be_bytes());
     raw
+}
+
+// Writes the word of four bytes that begins at `done` to the place of the same in a run at `at`, by way of a number: a copy from slice to
+// slice looks first whether the two overlap.
+#[tactic(auto, using(crate::proofs::AddressHeaderLaws::word_put))]
+fn put_word(bytes: &[u8], done: usize, dst: &mut [u8], at: usize)
+    requires { (done + 4 ≤ length bytes.now) × (at + done + 4 ≤ length dst.old) }
+    ensures { dst.new ≡ sets dst.old (at + done) (part done 4 bytes.now) }
+{
+    let word: u32 = get_or_zero(bytes, done);
+    word.write_be(&mut dst[at + done..at + done + 4]);
 }
 
 impl WireHost {
@@ -101,21 +112,28 @@ impl WireHost {
         AddressInfo(self.kind).address_length()
     }
 
-    // Writes the host at `at`, where there is room for it, in words of four bytes, each by way of a number: a copy of any length costs
-    // a call, and one from slice to slice looks first whether the two overlap.
-    #[tactic(auto, using(crate::proofs::AddressHeaderLaws::host_words), unfolding(crate::specs::AddressHeader::wire_host_bytes))]
+    // Writes the host at `at`, where there is room for it: one to four words. In a loop the compiler sees a copy of any length, which is a
+    // call, and longer than the words of most hosts.
+    #[tactic(auto, using(crate::proofs::AddressHeaderLaws::next_words), unfolding(crate::specs::AddressHeader::wire_host_bytes, packet_common_header::specs::CommonHeader::host_length))]
     fn put(self, dst: &mut [u8], at: usize)
         requires { at + host_length self.kind ≤ length dst.old }
         ensures { dst.new ≡ sets dst.old at (spec.wire_host_bytes self) }
     {
         let len = self.encoded_length();
         let bytes = self.bytes;
-        let mut done: usize = 0;
-        while done < len {
-            let word: u32 = get_or_zero(&bytes, done);
-            word.write_be(&mut dst[at + done..at + done + 4]);
-            done += 4;
+        put_word(&bytes, 0, dst, at);
+        if len == 4 {
+            return;
         }
+        put_word(&bytes, 4, dst, at);
+        if len == 8 {
+            return;
+        }
+        put_word(&bytes, 8, dst, at);
+        if len == 12 {
+            return;
+        }
+        put_word(&bytes, 12, dst, at);
     }
 }
 

@@ -14,7 +14,7 @@ use errors::path_error::DataplanePathErrorKind;
 use path_fields::{HopField, InfoField};
 use wire_encoding::bounded::{Bounded, U2, U6};
 use wire_encoding::number::Number;
-use wire_encoding::read::{get, wide};
+use wire_encoding::read::{get_word, wide};
 
 // A 2-bit index into the info fields.
 pub type InfoFieldIndex = U2;
@@ -27,8 +27,11 @@ pub type PathMetaReserved = U6;
 
 // The widths of these names, by the largest number of each.
 const _: () = prove!(InfoFieldIndex::MAX == 3);
+
 const _: () = prove!(HopFieldIndex::MAX == 63);
+
 const _: () = prove!(SegmentLength::MAX == 63);
+
 const _: () = prove!(PathMetaReserved::MAX == 63);
 
 // The pointers, the reserved bits and the three segment lengths. Each may hold any byte: writing one tests their widths.
@@ -303,7 +306,7 @@ impl PathMetaHeader {
     pub fn decode(bytes: &[u8]) -> Result<PathMetaHeader, DecodeError>
         ensures { result ≡ spec.read_meta bytes.now }
     {
-        let fields = get::<u32>(bytes, 0).ok_or(DecodeError::PacketEmptyOrTruncated)?;
+        let fields = get_word(bytes, 0).ok_or(DecodeError::PacketEmptyOrTruncated)?;
         PathMetaHeader::from(fields).check()
     }
 

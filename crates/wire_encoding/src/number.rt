@@ -97,13 +97,10 @@ impl Number for u32 {
 
     const WIDTH: usize = 4;
 
-    // Byte by byte, so that the compiler sees of which bytes each field of a header's word is made.
     #[tactic(auto, using(crate::proofs::BigEndian::whole), unfolding(crate::specs::BigEndian::big_endian))]
     fn from_be(bytes: &[u8]) -> u32 {
         if has_room(bytes.len(), 0, 4) {
-            let high = u32::from(bytes[0]) * 256 + u32::from(bytes[1]);
-            let low = u32::from(bytes[2]) * 256 + u32::from(bytes[3]);
-            return high * 0x1_0000 + low;
+            return u32::from_be_bytes([bytes[0], bytes[1], bytes[2], bytes[3]]);
         }
         0
     }

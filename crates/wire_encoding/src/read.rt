@@ -45,6 +45,20 @@ pub fn get<T: Number>(bytes: &[u8], at: usize) -> Option<T>
     None
 }
 
+// The 32-bit number at `at`, unless there are too few bytes for it, byte by byte: of a word whose fields are taken apart, the compiler
+// then sees of which bytes each is made.
+#[tactic(auto, using(crate::proofs::BigEndian::reads), unfolding(crate::specs::BigEndian::big_endian))]
+pub fn get_word(bytes: &[u8], at: usize) -> Option<u32>
+    ensures { number_of (λ n. n) result ≡ number_at 4 bytes.now at }
+{
+    if !has_room(bytes.len(), at, 4) {
+        return None;
+    }
+    let high = u32::from(bytes[at]) * 256 + u32::from(bytes[at + 1]);
+    let low = u32::from(bytes[at + 2]) * 256 + u32::from(bytes[at + 3]);
+    Some(high * 0x1_0000 + low)
+}
+
 // The number at `at`, or 0 where there are too few bytes.
 pub fn get_or_zero<T: Number>(bytes: &[u8], at: usize) -> T
     ensures { T.value result ≡ or_else (number_at T.WIDTH bytes.now at) 0 }
