@@ -72,14 +72,12 @@ fn read_at(
         PathCall::Segment => paths::segment(out, path, bytes, index),
         // `segexp T B i`: when segment i expires.
         PathCall::SegExp => {
-            paths::found(out, path_expiry::segment_expiry_time(path, bytes, index))
+            paths::expiry(out, path_expiry::segment_expiry_time(path, bytes, index))
         }
         // `pathexp T B`: when the path expires.
-        PathCall::PathExp => paths::found(out, path_expiry::expiry_time(path, bytes)),
-        // `left T B now`: the time left.
-        PathCall::Left => paths::found(out, path_expiry::time_left(path, bytes, index as u64)),
-        // `ifcount T B`: the number of interfaces.
-        PathCall::IfCount => paths::found(out, path_interfaces::interfaces_count(path, bytes)),
+        PathCall::PathExp => paths::expiry(out, path_expiry::expiry_time(path, bytes)),
+        PathCall::Left => paths::left(out, path, bytes, index as u64),
+        PathCall::IfCount => paths::ifcount(out, path, bytes),
         PathCall::Iface => paths::iface(out, path, bytes, index),
         PathCall::Raw => paths::raw(out, path, bytes),
         PathCall::RecordRead => records::read(out, path, bytes),
@@ -184,9 +182,9 @@ fn change(
     let path = travel::path_at(line);
     match call {
         // `alert T B i k n`: the bytes with the ingress (k 1) or egress (k 0) alert flag of hop field i set to n.
-        ChangeCall::Alert => print::answer(out, travel::set_alert(line, bytes, index)),
+        ChangeCall::Alert => travel::done(out, travel::set_alert(line, bytes, index)),
         // `move T B`: the bytes after a single move.
-        ChangeCall::Move => print::answer(out, path_moves::single_move(path, bytes)),
+        ChangeCall::Move => travel::done(out, path_moves::single_move(path, bytes)),
         ChangeCall::Walk => travel::walk(out, path_moves::walk(path, bytes, index)),
         // `put 2 B at n`: a 16-bit number written.
         ChangeCall::Put2 => values::put::<u16>(out, bytes, index, words::number_at(line, 4)),
@@ -199,10 +197,7 @@ fn change(
         // `recordmove T B`: a single move.
         ChangeCall::RecordMove => records::left(out, path_moves::single_move(path, bytes)),
         // `recordwalk T B limit`: a walk.
-        ChangeCall::RecordWalk => {
-            let walked = path_moves::walk(path, bytes, index);
-            records::left(out, walked.map(|walked| walked.path))
-        }
+        ChangeCall::RecordWalk => records::walk(out, path_moves::walk(path, bytes, index)),
     }
 }
 

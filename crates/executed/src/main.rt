@@ -1,5 +1,6 @@
 // Executes the calls on standard input, one to a line, and prints each line, then ` => ` and its answer.
 // An empty line and one that begins with `#` are copied. The comment of a call's function, or of its arm in calls.rt, says its words.
+// Where C has a struct for a call's answer, the fields of that struct are printed, of a refusal too.
 #![tactic(auto)]
 
 mod calls;

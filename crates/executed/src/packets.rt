@@ -2,27 +2,24 @@
 // of an address, which has no padding, is the first three.
 ghost use Rattle.std.specs.Prelude.{◌<◌};
 
-use crate::paths::NOWHERE;
 use crate::print::Hex;
 use crate::{meta_headers, print, words};
 use address::host::HostAddr;
 use address::ia::IsdAsn;
 use address::scion_address::ScionAddr;
 use address::service::ServiceAddr;
-use errors::packet_error::{DecodeError, EncodeError};
+use errors::packet_error::EncodeError;
 use packet::raw::ScionPacketRaw;
 use packet_address_header::{AddressHeader, AddressHeaderRead, HostAddress, MaybeEncoded};
 use packet_common_header::CommonHeader;
 use packet_headers::ScionHeaders;
-use path::standard::StandardPath;
+use path::standard::Part;
+use scion_packets::{ScionCapture, ScionHost, ScionPacket, capture_out, encoded_out};
 use std::io;
 
 // Document 01's number of an answer to writing.
 pub fn encoded(out: &impl Print, encoded: Result<(), EncodeError>) -> io::Result<()> {
-    match encoded {
-        Ok(()) => print::number(out, 0),
-        Err(error) => print::number(out, error.number()),
-    }
+    print::number(out, encoded_out(&encoded).number)
 }
 
 // Version, traffic class, flow, next header, factor, payload length, path type, host kinds and reserved bytes.
@@ -51,24 +48,27 @@ fn service_number(host: HostAddr) -> u16 {
 }
 
 // A host's kind, a service's number, the sixteen bytes and the padding.
-fn host(out: &impl Print, address: HostAddress) -> io::Result<()> {
-    let service = match address.host {
-        MaybeEncoded::Decoded(named) => service_number(named),
-        MaybeEncoded::Encoded(_) => 0,
-    };
+fn host(out: &impl Print, host: ScionHost) -> io::Result<()> {
     print!(out;
-        " {} {service} {} {}",
-        address.kind(),
-        Hex(&address.bytes),
-        address.padding
+        " {} {} {} {}",
+        host.kind,
+        host.service,
+        Hex(&host.bytes),
+        host.padding
     )
 }
 
 // The networks and the hosts, each destination first.
-fn address_record(out: &impl Print, header: AddressHeader) -> io::Result<()> {
-    print::two(out, header.destination_ia.0, header.source_ia.0)?;
-    host(out, header.destination)?;
-    host(out, header.source)
+fn address_record(
+    out: &impl Print,
+    destination_ia: u64,
+    destination: ScionHost,
+    source_ia: u64,
+    source: ScionHost,
+) -> io::Result<()> {
+    print::two(out, destination_ia, source_ia)?;
+    host(out, destination)?;
+    host(out, source)
 }
 
 // `common B`: the common header that begins the bytes, and the lengths of all headers, of those after it, and of the payload.
@@ -120,48 +120,73 @@ pub fn address(out: &impl Print, line: &[u8]) -> io::Result<()> {
         header: AddressHeader::zero(),
         length: 0,
     });
-    address_record(out, read.header)?;
+    let header = read.header;
+    address_record(
+        out,
+        header.destination_ia.0,
+        ScionHost::from(header.destination),
+        header.source_ia.0,
+        ScionHost::from(header.source),
+    )?;
     print::number(out, read.length)?;
-    end(out, read.header.destination())?;
-    end(out, read.header.source())
+    end(out, header.destination())?;
+    end(out, header.source())
 }
 
-// The packet that stands in the place of one that was refused.
-fn no_packet() -> ScionPacketRaw {
-    ScionPacketRaw {
-        common: CommonHeader::zero(),
-        address: AddressHeader::zero(),
-        path: StandardPath::zero(),
-        path_part: NOWHERE,
-        payload_part: NOWHERE,
+// The common header of a packet that was split; its kinds are those of the hosts.
+fn common_of(packet: ScionPacket) -> CommonHeader {
+    CommonHeader {
+        version: packet.version,
+        traffic_class: packet.traffic_class,
+        flow_id: packet.flow_id,
+        next_header: packet.next_header,
+        header_length_factor: packet.header_length_factor,
+        payload_length: packet.payload_length,
+        path_type: packet.path_type,
+        destination_kind: packet.destination.kind,
+        source_kind: packet.source.kind,
+        reserved: packet.reserved,
     }
 }
 
+// A part of the bytes: where it lies, and its bytes.
+fn part(out: &impl Print, part: Part, bytes: &[u8]) -> io::Result<()> {
+    print::two(out, part.start, Hex(part.of(bytes)))
+}
+
 // A packet or capture that was split: its headers, where its path and its payload lie, and their bytes.
-fn packet_record(
-    out: &impl Print,
-    answer: Result<ScionPacketRaw, DecodeError>,
-    bytes: &[u8],
-) -> io::Result<()> {
-    print::answer(out, answer)?;
-    let packet = answer.unwrap_or(no_packet());
-    common_record(out, packet.common)?;
-    address_record(out, packet.address)?;
+fn packet_record(out: &impl Print, packet: ScionPacket, bytes: &[u8]) -> io::Result<()> {
+    print::handed(out, packet.answer)?;
+    common_record(out, common_of(packet))?;
+    address_record(
+        out,
+        packet.destination_ia,
+        packet.destination,
+        packet.source_ia,
+        packet.source,
+    )?;
     meta_headers::record(out, packet.path.meta_header)?;
-    print::two(out, packet.path_part.start, Hex(packet.path(bytes)))?;
-    print::two(out, packet.payload_part.start, Hex(packet.payload(bytes)))
+    part(out, packet.path_part, bytes)?;
+    part(out, packet.payload_part, bytes)
 }
 
 // `packet B`: the packet that begins the bytes.
 pub fn packet(out: &impl Print, bytes: &[u8]) -> io::Result<()> {
-    packet_record(out, ScionPacketRaw::decode(bytes), bytes)
+    packet_record(out, ScionPacket::from(ScionPacketRaw::decode(bytes)), bytes)
+}
+
+// The capture that begins the bytes, split.
+pub fn split_capture(bytes: &[u8]) -> ScionCapture {
+    let read = ScionPacketRaw::decode_capture(bytes);
+    let packet = ScionPacket::from(read.map(|capture| capture.packet));
+    capture_out(packet, bytes.len())
 }
 
 // `capture B`: the capture that begins the bytes, and whether it is short.
 pub fn capture(out: &impl Print, bytes: &[u8]) -> io::Result<()> {
-    let read = ScionPacketRaw::decode_capture(bytes);
-    packet_record(out, read.map(|capture| capture.packet), bytes)?;
-    print::flag(out, read.is_ok_and(|capture| capture.short))
+    let capture = split_capture(bytes);
+    packet_record(out, capture.packet, bytes)?;
+    print::flag(out, capture.is_short)
 }
 
 // A host of a kind that has a name: IPv4, IPv6 or a service.

@@ -1,25 +1,22 @@
 // Calls on paths as bytes: word 1 is the type, word 2 the bytes, word 3 an index or a time.
 use crate::{meta_headers, print};
 use errors::path_error::PathError;
-use path::dataplane::{DataplanePath, Extent};
-use path::standard::segment::Segment;
-use path::standard::{Found, Part, StandardPath};
-use std::fmt::Display;
+use path::dataplane::DataplanePath;
+use path::standard::{Found, Part};
+use scion_paths::{
+    ScionExpiry, ScionInterface, ScionInterfaceCount, ScionPathRead, ScionSegment, ScionTimeLeft,
+};
 use std::io;
 
 // The part that stands in the place of one that was refused.
-pub const NOWHERE: Part = Part { start: 0, len: 0 };
+const NOWHERE: Part = Part { start: 0, len: 0 };
 
 // `path T B`: the path's length, its pointers, its reserved bits and its lengths.
 pub fn read(out: &impl Print, path: DataplanePath, bytes: &[u8]) -> io::Result<()> {
-    let read = path.decode(bytes);
-    print::answer(out, read)?;
-    let extent = read.unwrap_or(Extent {
-        path: StandardPath::zero(),
-        length: 0,
-    });
-    print::number(out, extent.length)?;
-    meta_headers::record(out, extent.path.meta_header)
+    let read = ScionPathRead::from(path.decode(bytes));
+    print::handed(out, read.answer)?;
+    print::number(out, read.length)?;
+    meta_headers::record(out, read.path.meta_header)
 }
 
 // `raw T B`: the bytes of the path; none where it is refused.
@@ -62,33 +59,36 @@ pub fn segment(
     bytes: &[u8],
     index: usize,
 ) -> io::Result<()> {
-    let found = path.segment(bytes, index);
-    print::answer(out, found)?;
-    let nowhere = Segment {
-        info_field: NOWHERE,
-        hop_fields: NOWHERE,
-    };
-    let segment = found.map_or(nowhere, |found| found.value);
+    let segment = ScionSegment::from(path.segment(bytes, index));
+    print::handed(out, segment.answer)?;
     part(out, segment.info_field)?;
     part(out, segment.hop_fields)
 }
 
-// The number that a call finds: an expiry in ms, or the number of interfaces.
-pub fn found<T: Copy + Display + Default>(
-    out: &impl Print,
-    found: Result<Found<T>, PathError>,
-) -> io::Result<()> {
-    print::answer(out, found)?;
-    print::number(out, found.map_or(T::default(), |found| found.value))
+// An expiry in ms.
+pub fn expiry(out: &impl Print, found: Result<Found<u64>, PathError>) -> io::Result<()> {
+    let expiry = ScionExpiry::from(found);
+    print::handed(out, expiry.answer)?;
+    print::number(out, expiry.ms)
+}
+
+// `left T B now`: the time left.
+pub fn left(out: &impl Print, path: DataplanePath, bytes: &[u8], now: u64) -> io::Result<()> {
+    let left = ScionTimeLeft::from(path_expiry::time_left(path, bytes, now));
+    print::handed(out, left.answer)?;
+    print::number(out, left.ms)
+}
+
+// `ifcount T B`: the number of interfaces.
+pub fn ifcount(out: &impl Print, path: DataplanePath, bytes: &[u8]) -> io::Result<()> {
+    let counted = ScionInterfaceCount::from(path_interfaces::interfaces_count(path, bytes));
+    print::handed(out, counted.answer)?;
+    print::number(out, counted.count)
 }
 
 // `iface T B i`: interface i's hop field and its number.
 pub fn iface(out: &impl Print, path: DataplanePath, bytes: &[u8], index: usize) -> io::Result<()> {
-    let found = path_interfaces::interface(path, bytes, index);
-    print::answer(out, found)?;
-    let (hop_field, interface) = match found {
-        Ok(found) => (found.value.hop_field, found.value.interface),
-        Err(_) => (0, None),
-    };
-    print::two(out, hop_field, interface.unwrap_or(0))
+    let interface = ScionInterface::from(path_interfaces::interface(path, bytes, index));
+    print::handed(out, interface.answer)?;
+    print::two(out, interface.hop_field, interface.id)
 }

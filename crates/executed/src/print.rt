@@ -1,5 +1,6 @@
 // Answers on standard output: each number or byte string after a space.
 use errors::path_error::PathError;
+use scion_paths::ScionAnswer;
 use std::fmt::Display;
 use std::{fmt, io};
 
@@ -60,6 +61,11 @@ pub fn answer<T: Copy, E: Into<PathError>>(
             two(out, error.number(), error.value())
         }
     }
+}
+
+// The number and value of an answer that is handed to C.
+pub fn handed(out: &impl Print, answer: ScionAnswer) -> io::Result<()> {
+    two(out, answer.number, answer.value)
 }
 
 // Document 01's number of an answer alone.
