@@ -1,7 +1,7 @@
 // The meta header of a standard path, by value: read, written, reversed.
 #![tactic(auto)]
 
-ghost use Rattle.std.specs.Prelude.{◌≡◌, ◌≤◌, ◌<◌, ◌∷◌, [], length};
+ghost use Rattle.std.specs.Prelude.{◌≡◌, ◌-◌, ◌^◌, ◌≤◌, ◌<◌, ◌∷◌, [], length};
 ghost use Rattle.std.specs.Option.{ok_or};
 ghost use Rattle.wire_encoding.specs.Result.{done, or_else};
 ghost use Rattle.errors.specs.declared.path_error.PathError.TheVariants.{NoSuchField};
@@ -25,14 +25,17 @@ pub type SegmentLength = U6;
 // The 6 bits of a meta header that mean nothing yet.
 pub type PathMetaReserved = U6;
 
-// The widths of these names, by the largest number of each.
-const _: () = prove!(InfoFieldIndex::MAX == 3);
-
-const _: () = prove!(HopFieldIndex::MAX == 63);
-
-const _: () = prove!(SegmentLength::MAX == 63);
-
-const _: () = prove!(PathMetaReserved::MAX == 63);
+// The largest number of each of these names: an info pointer has 2 bits, the others 6.
+pub fn largest_of_fields() -> [u8; 4]
+    ensures { result ≡ ((2 ^ 2 - 1) ∷ (2 ^ 6 - 1) ∷ (2 ^ 6 - 1) ∷ (2 ^ 6 - 1) ∷ []) }
+{
+    [
+        InfoFieldIndex::MAX,
+        HopFieldIndex::MAX,
+        SegmentLength::MAX,
+        PathMetaReserved::MAX,
+    ]
+}
 
 // The pointers, the reserved bits and the three segment lengths. Each may hold any byte: writing one tests their widths.
 #[repr(C)]

@@ -1,5 +1,5 @@
 // Numbers of fewer bits than their type has.
-ghost use Rattle.std.specs.Prelude.{◌≡◌};
+ghost use Rattle.std.specs.Prelude.{◌≡◌, ◌-◌, ◌^◌, ◌∷◌, []};
 ghost use Rattle.wire_encoding.specs.Bounded.{bounded, bounded_of};
 
 use crate::number::Number;
@@ -55,11 +55,14 @@ impl Bounded<u32, 20> {
     pub const MAX: u32 = 0xF_FFFF;
 }
 
-// The largest number of each width is the one with all its bits set.
-const _: () = prove!(U2::MAX == (1 << 2) - 1);
-
-const _: () = prove!(U4::MAX == (1 << 4) - 1);
-
-const _: () = prove!(U6::MAX == (1 << 6) - 1);
-
-const _: () = prove!(U20::MAX == (1 << 20) - 1);
+// The largest number of each width, which has all its bits set.
+pub fn largest_numbers() -> [u32; 4]
+    ensures { result ≡ ((2 ^ 2 - 1) ∷ (2 ^ 4 - 1) ∷ (2 ^ 6 - 1) ∷ (2 ^ 20 - 1) ∷ []) }
+{
+    [
+        u32::from(U2::MAX),
+        u32::from(U4::MAX),
+        u32::from(U6::MAX),
+        U20::MAX,
+    ]
+}
